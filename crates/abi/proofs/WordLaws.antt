@@ -1,5 +1,5 @@
 -- Laws of the answer word: what is packed is read again.
-use Prim.Native.Nat.{ℕ, ◌+◌, ◌*◌, ◌%◌, ◌≤◌, ◌<◌}
+use Prim.Native.Nat.{ℕ, min, ◌+◌, ◌*◌, ◌%◌, ◌≤◌, ◌<◌}
 use native.Mathlib.Omega.{arith}
 use mathlib.Core.Path.{◌≡◌, refl}
 use mathlib.Core.Logic.{⊎_elim}
@@ -22,6 +22,14 @@ capped_within most n =
     ⊎_elim
     (λ (l : most < n). rw (capped_most most n l) (omega arith))
     (λ (l : n ≤ most). rw (capped_same most n l) l)
+    (lt_or_le most n)
+
+-- It is the smaller of the two.
+pub capped_min : (most n : ℕ) → capped_at most n ≡ min n most
+capped_min most n =
+    ⊎_elim
+    (λ (l : most < n). rw (capped_most most n l) (omega arith))
+    (λ (l : n ≤ most). rw (capped_same most n l) (omega arith))
     (lt_or_le most n)
 
 -- A byte, a byte and a number, read off their sum.

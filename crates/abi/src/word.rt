@@ -2,29 +2,19 @@
 ghost use Rattle.std.specs.Prelude.{◌≡◌, ◌≤◌};
 ghost use Rattle.floor.specs.Answers.{verdict_of};
 ghost use Rattle.laws.specs.Verdict.{value, refusal, refused, ◌then◌, ◌gives◌};
-ghost use Rattle.abi.specs.Word.{capped_at, packed as packedAs, word_of, of_number, done};
+ghost use Rattle.abi.specs.Word.{packed as packedAs, word_of, of_number, done};
 
-use floor::{Checked, Refusal};
+use floor::Refusal;
 
 // The largest number or place that a word has room for, 2^48 − 1.
 const LARGEST: u64 = 281474976710655;
-
-// A number, told as the largest that there is room for where it is larger.
-fn at_most(most: u64, n: u64) -> u64
-    ensures { (result ≡ capped_at most n) × (result ≤ most) }
-{
-    if most < n {
-        return most;
-    }
-    n
-}
 
 // A word of its parts: the low byte, the next byte and the rest.
 fn packed(low: u64, second: u16, rest: usize) -> u64
     requires { low ≤ 1 }
     ensures { result ≡ packedAs low second rest }
 {
-    low + 256 * at_most(255, second as u64) + 65536 * at_most(LARGEST, rest as u64)
+    low + 256 * (second as u64).min(255) + 65536 * (rest as u64).min(LARGEST)
 }
 
 // The word of what is done: a case and a number.
@@ -35,10 +25,10 @@ pub fn done(case: u16, n: usize) -> u64
 }
 
 // The word of a refusal: its number and its place.
-pub fn refused(x: Refusal) -> u64
-    ensures { result ≡ word_of (refusal x.number x.place) }
+pub fn refused(number: u16, place: usize) -> u64
+    ensures { result ≡ word_of (refusal number place) }
 {
-    packed(1, x.number, x.place)
+    packed(1, number, place)
 }
 
 // The word of memory that is too short: 9, 0.
@@ -49,21 +39,21 @@ pub fn too_short() -> u64
 }
 
 // The word of a check, with a number where it passes.
-pub fn of_check(x: Checked, n: usize) -> u64
+pub fn of_check(x: Result<(), Refusal>, n: usize) -> u64
     ensures { result ≡ word_of (of_number (verdict_of x gives n)) }
 {
     match x {
-        Checked::Passed => done(0, n),
-        Checked::Refused(r) => refused(r),
+        Ok(()) => done(0, n),
+        Err(r) => refused(r.number(), r.place),
     }
 }
 
 // The word of a check where the memory for what is answered is too short: its refusal, and 9 if it has none.
-pub fn of_check_in_short(x: Checked) -> u64
+pub fn of_check_in_short(x: Result<(), Refusal>) -> u64
     ensures { result ≡ word_of (of_number ((verdict_of x then refused 9 0) gives 0)) }
 {
     match x {
-        Checked::Passed => too_short(),
-        Checked::Refused(r) => refused(r),
+        Ok(()) => too_short(),
+        Err(r) => refused(r.number(), r.place),
     }
 }

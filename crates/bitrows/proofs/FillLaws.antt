@@ -4,11 +4,14 @@ use native.Mathlib.Omega.{arith}
 use native.Mathlib.Nat.{eq-or-lt_of_le}
 use native.Mathlib.Numerals.{add-one}
 use mathlib.Core.Bool.{false}
-use mathlib.Core.List.{List}
+use mathlib.Core.List.{List, [], ◌∷◌}
 use mathlib.Core.Logic.{◌⊎◌, inl, inr, ⊎_elim}
-use mathlib.Core.Path.{◌≡◌, refl, ◌∙◌}
-use lib.ListN.{length, get_or, set, replicate, length-set}
-use lib.Seq.{get_or-set_same, get_or-set_other}
+use mathlib.Core.Path.{◌≡◌, refl, sym, ◌∙◌}
+use lib.ListN.{length, get_or, take, set, replicate, length-set}
+use lib.Seq.{get_or-set_same, get_or-set_other, take-suc, length-take-le, drop-drop}
+use borrow.Rule.Slice.PartMut.{put_mid}
+use Rattle.laws.specs.Memory.{put}
+use Rattle.laws.proofs.PutLaws.{put_none, put_next, put_one}
 use Rattle.laws.proofs.Lists.{zeros_at}
 use Rattle.bitrows.specs.Rows.{has, filled, written}
 use Rattle.bitrows.proofs.DigitLaws.{digit_zero}
@@ -84,3 +87,23 @@ module _ (m : List ℕ) (i : ℕ) (rows : List ℕ) where
       get_or-set_other (written m i rows n) (i + n) j (get_or rows n 0) 0
       (λ e. ⊎_elim (λ (l : j < i). omega arith) (λ (l : i + suc n ≤ j). omega arith) h)
       ∙ written_out n j (⊎_elim (λ (l : j < i). inl l) (λ (l : i + suc n ≤ j). inr (omega arith)) h)
+
+-- Rows written one by one are a block stored, which a copy of the rows into a part leaves too.
+written_put : (m : List ℕ) (i : ℕ) (rows : List ℕ) (n : ℕ) → i + n ≤ length m → n ≤ length rows → written m i rows n ≡ put m i (take n rows)
+unfolding written
+written_put m i rows zero l h = put_none m i
+written_put m i rows (suc n) l h =
+    let x = get_or rows n 0 in
+    let size : length (take n rows) ≡ n = length-take-le n rows (omega arith) in
+    rw (take-suc rows n 0 h)
+    (put_next m (written m i rows n) (set (written m i rows n) (i + n) x) (take n rows) (x ∷ []) i (i + n)
+    (written_put m i rows n (omega arith) (omega arith))
+    (put_one (written m i rows n) (i + n) x (omega (arith, length_written m i rows n))) (rw size) (omega arith))
+
+pub written_copied : (m : List ℕ) (i : ℕ) (rows ys : List ℕ) (n k : ℕ) → i + n ≤ length m → n ≤ length rows → k ≡ n → ys ≡ take n rows →
+    put_mid i k m ys ≡ written m i rows n
+unfolding put
+written_copied m i rows ys n k l h e f =
+    let size : length (take n rows) ≡ n = length-take-le n rows h in
+    let stored = written_put m i rows n l h in
+    rw (e, f, drop-drop n i m) (sym (rw size at stored))

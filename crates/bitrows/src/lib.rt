@@ -16,6 +16,7 @@ fn bit(column: usize) -> u32
 }
 
 // The digits of x that are not in a mask.
+#[tactic(auto, unfolding(crate::specs::Words::without))]
 pub fn without(x: u32, mask: u32) -> u32
     ensures { result ≡ without x mask }
 {
@@ -31,12 +32,12 @@ pub fn has(rows: &[u32], row: usize, column: usize) -> bool
 }
 
 // Adds the digit of a row at a column.
+#[tactic(auto, unfolding(crate::specs::Rows::added))]
 pub fn add(rows: &mut [u32], row: usize, column: usize)
     requires { (row < length rows.old) × (column < 32) }
     ensures { rows.new ≡ added rows.old row column }
 {
-    let more = bit(column);
-    rows[row] = rows[row] | more;
+    rows[row] |= bit(column);
 }
 
 // What a cell's number is multiplied with, so that a shift by 16 places divides it by the width.
@@ -56,12 +57,12 @@ pub fn row_of(w: usize, scale: usize, c: usize) -> usize
 }
 
 // Takes the digit of a row at a column away.
+#[tactic(auto, unfolding(crate::specs::Rows::dropped))]
 pub fn drop(rows: &mut [u32], row: usize, column: usize)
     requires { (row < length rows.old) × (column < 32) }
     ensures { rows.new ≡ dropped rows.old row column }
 {
-    let less = bit(column);
-    rows[row] = without(rows[row], less);
+    rows[row] = without(rows[row], bit(column));
 }
 
 // Takes cell c of a grid of width w out of the rows from row i on; a number that is no cell changes nothing.
@@ -81,14 +82,11 @@ pub fn put_rows(table: &mut [u32], i: usize, words: &[u32], n: usize)
     requires { (n ≤ length words.now) × (i + n ≤ length table.old) }
     ensures { table.new ≡ written table.old i words.now n }
 {
-    let mut row: usize = 0;
-    while row < n {
-        table[i + row] = words[row];
-        row += 1;
-    }
+    table[i..i + n].copy_from_slice(&words[..n]);
 }
 
 // The digits of a mask that a step brings to a row from the row above, itself and the row below.
+#[tactic(auto, unfolding(crate::specs::Rows::successor_row))]
 pub fn successor_row(over: u32, here: u32, under: u32, mask: u32) -> u32
     ensures { result ≡ successor_row over here under mask }
 {

@@ -3,7 +3,8 @@ use Prim.Native.Nat.{ℕ, suc, ◌+◌, ◌*◌, ◌-◌, ◌≤◌, ◌<◌}
 use native.Mathlib.Omega.{arith}
 use native.Mathlib.Nat.{add-zero}
 use native.Mathlib.Numerals.{add-one}
-use mathlib.Core.Bool.{Bool, true, false, cond, ◌||◌}
+use mathlib.Core.Bool.{Bool, true, false, cond, ◌||◌, true≢false}
+use Rattle.std.specs.Prelude.{Option, Some, None, is_some}
 use mathlib.Core.List.{List, ◌∷◌}
 use mathlib.Core.Logic.{◌⊎◌, inl, inr}
 use mathlib.Core.Path.{◌≡◌, refl, sym, ◌∙◌, ap, ap₂}
@@ -20,14 +21,10 @@ use Rattle.records.specs.Records.{view_of, record_at, view_at, records, views_of
 use Rattle.records.specs.Seen.{seen}
 use Rattle.records.proofs.RecordLaws.{views_above}
 use Rattle.records.proofs.SeenLaws.{records_length, records_view}
-use Rattle.search.specs.declared.Outcome.{Outcome}
-use Rattle.search.specs.declared.Outcome.TheVariants.{Route, None, Refused}
-use Rattle.search.specs.declared.Found.{Found}
-use Rattle.search.specs.Answers.{answered, outcome_of, result_of, Answers}
+use Rattle.search.specs.Answers.{answer_of}
 use Rattle.search.specs.Task.{task_of_rows}
 use Rattle.search.specs.Rows.{Searchable}
 use Rattle.planner.specs.Plan.{respond_with}
-use Rattle.planner.specs.Records.{tag_of}
 use Rattle.blockers.specs.Blockers.{views_without, if_none, tried, left_after, set_of}
 use Rattle.blockers.specs.Inner.{heard_digit}
 use Rattle.blockers.proofs.SetLaws.{set_below}
@@ -71,42 +68,33 @@ cleared_records m i j l h =
         ∙ other_view m j k 0 (omega arith) ne
         ∙ sym (get_or-set_other (records m i) j k unheard unheard ne ∙ records_view m i k low)
 
--- The tag of what was found tells whether it is none.
-by_outcome : (x : Outcome) (r : List ℕ) (y : Answer) (vs vs' : List View) → outcome_of x r ≡ answered y →
-    (tag_of x ≡ 2 → if_none y vs vs' ≡ vs') × ((tag_of x ≡ 2 → ⊥) → if_none y vs vs' ≡ vs)
-unfolding outcome_of tag_of if_none
-by_outcome Route r none vs vs' e = absurd (let z : ◌≡◌ {A = ℕ} 0 1 = cc in omega arith)
-by_outcome Route r (route q) vs vs' e = (λ t. refl, λ n. absurd (n refl))
-by_outcome None r none vs vs' e = (λ t. absurd (omega arith), λ n. refl)
-by_outcome None r (route q) vs vs' e = absurd (let z : ◌≡◌ {A = ℕ} 0 1 = cc in omega arith)
-by_outcome (Refused y) r none vs vs' e = absurd (let z : ◌≡◌ {A = ℕ} 0 1 = cc in omega arith)
-by_outcome (Refused y) r (route q) vs vs' e = absurd (let z : ◌≡◌ {A = ℕ} 0 1 = cc in omega arith)
+-- Whether a route was found tells whether the answer is none.
+by_answer : (x : Option (List ℕ)) (vs vs' : List View) →
+    (is_some x ≡ true → if_none (answer_of x) vs vs' ≡ vs') × (is_some x ≡ false → if_none (answer_of x) vs vs' ≡ vs)
+unfolding if_none
+by_answer None vs vs' = (λ t. absurd (true≢false (sym t)), λ n. refl)
+by_answer (Some r) vs vs' = (λ t. refl, λ n. absurd (true≢false n))
 
 -- One carrier tried: its record stays out, or is put back.
-module _ (f : Floor) (rows : List ℕ) (i : ℕ) (m : List ℕ) (j : ℕ) (l : j < i) (h : 65 * i ≤ length m) (found : Found)
-    (says : Answers found (answered (best (task_of_rows f rows (i + 1)) (seen f (views_of (set m (65 * j) 0) (i + 1)))))) where
-  response : best (task_of_rows f rows (i + 1)) (seen f (views_of (set m (65 * j) 0) (i + 1))) ≡
-      respond_with f rows i (views_without j (records m i))
+module _ (f : Floor) (rows : List ℕ) (i : ℕ) (m : List ℕ) (j : ℕ) (l : j < i) (h : 65 * i ≤ length m) (found : Option (List ℕ))
+    (says : answer_of found ≡ best (task_of_rows f rows (i + 1)) (seen f (views_of (set m (65 * j) 0) (i + 1)))) where
+  answer : respond_with f rows i (views_without j (records m i)) ≡ answer_of found
   unfolding respond_with
-  response =
-      ap (λ vs. best (task_of_rows f rows (i + 1)) (seen f vs)) (views_above (set m (65 * j) 0) i ∙ cleared_records m i j l h)
+  answer =
+      sym (says ∙ ap (λ vs. best (task_of_rows f rows (i + 1)) (seen f vs)) (views_above (set m (65 * j) 0) i ∙ cleared_records m i j l h))
 
-  answer : outcome_of found.outcome found.route ≡ answered (respond_with f rows i (views_without j (records m i)))
-  unfolding result_of
-  answer = says.answers ∙ ap answered response
-
-  pub stays_out : (tag_of found.outcome ≡ 2 → ⊥) → records (set m (65 * j) 0) i ≡ tried (respond_with f rows i) j (records m i)
+  pub stays_out : is_some found ≡ false → records (set m (65 * j) 0) i ≡ tried (respond_with f rows i) j (records m i)
   unfolding tried
-  stays_out not-two =
+  stays_out none_there =
       cleared_records m i j l h
-      ∙ sym ((by_outcome found.outcome found.route _ (views_without j (records m i)) (records m i) answer).1 not-two)
+      ∙ sym (rw answer ((by_answer found (views_without j (records m i)) (records m i)).1 none_there))
 
-  pub put_back : tag_of found.outcome ≡ 2 →
+  pub put_back : is_some found ≡ true →
       records (set (set m (65 * j) 0) (65 * j) (get_or m (65 * j) 0)) i ≡ tried (respond_with f rows i) j (records m i)
   unfolding tried
-  put_back two =
+  put_back there =
       ap (λ xs. records xs i) (set-set m (65 * j) 0 (get_or m (65 * j) 0) ∙ set-get_or m (65 * j) 0)
-      ∙ sym ((by_outcome found.outcome found.route _ (views_without j (records m i)) (records m i) answer).0 two)
+      ∙ sym (rw answer ((by_answer found (views_without j (records m i)) (records m i)).0 there))
 
 -- One more carrier tried.
 module _ (respond : List View → Answer) (vs' : List View) where

@@ -1,16 +1,16 @@
 -- Who shuts a carrier in, as an entry (document 02, slip 8): its refusals in order, its answer, and the lent memory after it. The entry's
 -- carriers count from 1.
-use Rattle.std.specs.Prelude.{ℕ, ◌-◌, Bool, true, false, List, length}
-use Rattle.laws.specs.Verdict.{Verdict, Outcome, value, refusal, ◌then◌, demand, ◌gives◌, when_passed}
+use Rattle.std.specs.Prelude.{ℕ, ◌-◌, Bool, true, false, List, Result, length}
+use Rattle.laws.specs.Verdict.{Verdict, Outcome, ◌then◌, demand, ◌gives◌, when_passed}
 use Rattle.floor.specs.declared.Floor.{Floor}
+use Rattle.floor.specs.declared.Refusal.{Refusal}
+use Rattle.floor.specs.Answers.{outcome_by}
 use Rattle.route.specs.Route.{Answer, none, route}
 use Rattle.records.specs.Records.{stored}
 use Rattle.floor.specs.Checks.{within}
 use Rattle.planner.specs.Plan.{plan_of, plan_verdict}
 use Rattle.planner.specs.Claims.{answer_at}
 use Rattle.blockers.specs.Blockers.{blockers_of}
-use Rattle.blockers.specs.declared.Blocked.{Blocked}
-use Rattle.blockers.specs.declared.Blocked.TheVariants.{Shut, Refused}
 
 -- The answer is none.
 unfoldable pub is_none : Answer → Bool
@@ -26,10 +26,9 @@ unfoldable pub blockers_verdict : Floor → List ℕ → (carrier lent : ℕ) �
 blockers_verdict f ws carrier lent =
     carrier_verdict f ws carrier lent then demand (is_none (answer_at (plan_of f ws) (carrier - 1))) 16 0
 
--- What each case of the code's answer says: the set of carriers as one number, digit j − 1 being carrier j's, or the refusal.
-unfoldable pub blocked_outcome : Blocked → Outcome ℕ
-blocked_outcome (Shut set) = value set
-blocked_outcome (Refused r) = refusal r.number r.place
+-- What the code's answer says: the set of carriers as one number, digit j − 1 being carrier j's, or the refusal.
+abbrev pub blocked_outcome : Result ℕ Refusal → Outcome ℕ
+blocked_outcome x = outcome_by (λ n. n) x
 
 -- What the entry answers.
 unfoldable pub blockers_outcome : Floor → List ℕ → (carrier lent : ℕ) → Outcome ℕ

@@ -18,9 +18,7 @@ fn try_without(f: Floor, free: Rows, i: u16, views: &mut [u16], j: usize)
     let at = SIZE * j;
     let tag = views[at];
     views[at] = 0;
-    let found = search::best_route(f, free, i + 1, views);
-    let outcome = found.outcome;
-    if planner::tag_of(outcome) == 2 {
+    if search::best_route(f, free, i + 1, views).is_some() {
         views[at] = tag;
     }
 }
@@ -30,11 +28,8 @@ pub fn leave_out(f: Floor, free: Rows, i: u16, views: &mut [u16])
     requires { Searchable f free (i + 1) views.old }
     ensures { records views.new i ≡ left_after (respond_with f free i) i (records views.old i) }
 {
-    let n = i as usize;
-    let mut j: usize = 0;
-    while j < n {
+    for j in 0..i as usize {
         try_without(f, free, i, views, j);
-        j += 1;
     }
 }
 
@@ -42,13 +37,7 @@ pub fn leave_out(f: Floor, free: Rows, i: u16, views: &mut [u16])
 fn heard_digit(tag: u16) -> u16
     ensures { (result ≡ heard_digit tag) × (result ≤ 1) }
 {
-    if tag == 1 {
-        return 1;
-    }
-    if tag == 2 {
-        return 1;
-    }
-    0
+    if tag == 1 || tag == 2 { 1 } else { 0 }
 }
 
 // The carriers that are heard, a bit each.
@@ -57,9 +46,7 @@ pub fn set_of(views: &[u16], k: usize) -> u16
     ensures { result ≡ set_of (records views.now k) }
 {
     let mut set: u16 = 0;
-    let mut j = k;
-    while 0 < j {
-        j -= 1;
+    for j in (0..k).rev() {
         set = 2 * set + heard_digit(views[SIZE * j]);
     }
     set

@@ -15,26 +15,14 @@ ghost use Rattle.blockers.specs.Blockers.{left_after, set_of, blockers_of};
 ghost use Rattle.blockers.specs.Entry.{carrier_verdict, blocked_outcome, blockers_outcome, blockers_memory};
 ghost use Rattle.blockers.specs.Inner.{PlanIn};
 
-use floor::{Checked, Floor, Refusal};
+use floor::{Floor, Reason, Refusal};
 use records::{SIZE, TEAM};
 
-// The answer of the entry.
-#[derive(Clone, Copy)]
-pub enum Blocked {
-    // The carriers that shut the carrier in, a bit each: bit j − 1 is carrier j's. With none of them, walls or the horizon are the cause.
-    Shut(u16),
-    // Refused.
-    Refused(Refusal),
-}
-
 // The refusals but 16, in their order.
-fn request(f: Floor, walls: &[u16], carrier: u16, lent: usize) -> Checked
+fn request(f: Floor, walls: &[u16], carrier: u16, lent: usize) -> Result<(), Refusal>
     ensures { verdict_of result ≡ carrier_verdict f walls.now carrier lent }
 {
-    let planned = planner::request(f, walls, lent);
-    let Checked::Passed = planned else {
-        return planned;
-    };
+    planner::request(f, walls, lent)?;
     search::listed(f, carrier)
 }
 
@@ -44,7 +32,7 @@ pub fn plan_own(f: Floor, walls: &[u16]) -> [u16; TEAM]
     ensures { PlanIn f walls.now result }
 {
     let mut own = records::blank();
-    planner::plan(f, walls, &mut own);
+    let _ = planner::plan(f, walls, &mut own);
     own
 }
 
@@ -68,7 +56,7 @@ pub fn set_for(f: Floor, walls: &[u16], own: [u16; TEAM], i: u16) -> u16
 }
 
 // Finds who shuts a carrier of a checked floor in, and stores the sequential answers; 16 where the carrier has a route.
-fn find(f: Floor, walls: &[u16], carrier: u16, answers: &mut [u16]) -> Blocked
+fn find(f: Floor, walls: &[u16], carrier: u16, answers: &mut [u16]) -> Result<u16, Refusal>
     requires { carrier_verdict f walls.now carrier (length answers.old) ≡ passed }
     ensures answers { blocked_outcome result ≡ blockers_outcome f walls.now carrier (length answers.old) }
     ensures stores { answers.new ≡ blockers_memory f walls.now carrier answers.old }
@@ -77,24 +65,21 @@ fn find(f: Floor, walls: &[u16], carrier: u16, answers: &mut [u16]) -> Blocked
     let at = SIZE * i as usize;
     let own = plan_own(f, walls);
     if own[at] == 2 {
-        return Blocked::Refused(Refusal {
-            number: 16,
+        return Err(Refusal {
+            reason: Reason::HasRoute,
             place: 0,
         });
     }
     records::write_front(answers, &own[0..SIZE * f.carriers as usize]);
-    Blocked::Shut(set_for(f, walls, own, i))
+    Ok(set_for(f, walls, own, i))
 }
 
 // Who shuts a carrier in: begin with all carriers above it and, from carrier 1 downwards in rank, leave out each that can go. The
 // sequential answers go into lent memory, as planning leaves them; all is as found with a refusal, 16 (the carrier has a route) too.
-pub fn blockers(f: Floor, walls: &[u16], carrier: u16, answers: &mut [u16]) -> Blocked
+pub fn blockers(f: Floor, walls: &[u16], carrier: u16, answers: &mut [u16]) -> Result<u16, Refusal>
     ensures answers { blocked_outcome result ≡ blockers_outcome f walls.now carrier (length answers.old) }
     ensures stores { answers.new ≡ blockers_memory f walls.now carrier answers.old }
 {
-    let asked = request(f, walls, carrier, answers.len());
-    let Checked::Refused(x) = asked else {
-        return find(f, walls, carrier, answers);
-    };
-    Blocked::Refused(x)
+    request(f, walls, carrier, answers.len())?;
+    find(f, walls, carrier, answers)
 }

@@ -1,20 +1,17 @@
 -- The conflict test of two lent routes as an entry (document 02, slips 7 and 9): its refusal, and its answer.
-use Rattle.std.specs.Prelude.{ℕ, min, List, length}
+use Rattle.std.specs.Prelude.{ℕ, min, List, length, Option, Result}
 use Rattle.laws.specs.Memory.{part}
-use Rattle.laws.specs.Verdict.{Verdict, ◌then◌, Outcome, value, refusal, ◌gives◌}
+use Rattle.laws.specs.Verdict.{Verdict, ◌then◌, Outcome, ◌gives◌}
+use Rattle.floor.specs.declared.Refusal.{Refusal}
+use Rattle.floor.specs.Answers.{outcome_by}
 use Rattle.floor.specs.Checks.{long_enough}
-use Rattle.route.specs.FirstConflict.{same_cell, change_of_places, following, ConflictAnswer, free, dated}
-use Rattle.route.specs.ConflictTest.{first_conflict}
-use Rattle.conflict.specs.declared.Compared.{Compared}
-use Rattle.conflict.specs.declared.Compared.TheVariants.{Free, SameCell, ChangeOfPlaces, Following, Refused}
+use Rattle.route.specs.FirstConflict.{ConflictAnswer}
+use Rattle.route.specs.ConflictTest.{conflict_told, first_conflict}
+use Rattle.route.specs.declared.Conflict.{Conflict}
 
--- What each case of the code's answer says.
-unfoldable pub compared_outcome : Compared → Outcome ConflictAnswer
-compared_outcome Free = value free
-compared_outcome (SameCell t) = value (dated t same_cell)
-compared_outcome (ChangeOfPlaces t) = value (dated t change_of_places)
-compared_outcome (Following t) = value (dated t following)
-compared_outcome (Refused r) = refusal r.number r.place
+-- What the code's answer says.
+abbrev pub compared_outcome : Result (Option Conflict) Refusal → Outcome ConflictAnswer
+compared_outcome x = outcome_by conflict_told x
 
 -- 9, 0: a lent route has fewer than 64 numbers.
 unfoldable pub routes_lent : List ℕ → List ℕ → Verdict

@@ -1,14 +1,15 @@
 -- What a program that reads its input, and writes a text for it, writes.
-use Rattle.std.proofs.Common.{◌≡◌, ℕ, ◌<◌, ◌≤◌, List, [], ◌++◌, Option, None, Some, IfSome, arith, length, take, sym, ap, ◌∙◌, inl, inr, subst, append-nil, take_all, length-take-le}
+use Rattle.std.proofs.Common.{◌≡◌, ℕ, ◌<◌, ◌≤◌, List, [], ◌++◌, Option, None, Some, Result, Ok, Err, IfSome, arith, length, take, sym, ap, ◌∙◌, inl, inr, subst, append-nil, take_all, length-take-le}
 use Rattle.std.proofs.Math.Nat.{eq-or-lt_of_le}
 use Rattle.std.proofs.Math.Seq.{take-append_seam}
 use Rattle.std.specs.Io.KnownBytes.{Appends}
-use Rattle.console.specs.declared.Input.TheVariants.{Read}
-use Rattle.console.specs.declared.Output.{Output}
-use Rattle.console.specs.declared.Output.TheVariants.{Written, Failed}
+use Rattle.std.specs.Prelude.{⊤}
+use Rattle.console.specs.declared.Failed.{Failed}
 use Rattle.console.specs.Within.{InputWithin}
-use Rattle.std.proofs.KnownBytes.{Appends-nil}
-use Rattle.console.specs.Moved.{InputTaken, OnWritten, OutputPut, PutSome}
+use Rattle.console.specs.Moved.{InputTaken, OnWritten, OutputPut}
+use Rattle.console.specs.Told.{Tells}
+use denote.Ref.{Bor}
+use denote.Param.Members.{Once}
 
 -- A front that is not longer than the room is all that there is room for, where it fills the room or nothing is behind it.
 front_is : (room : ℕ) (front all ys : List ℕ) → all ≡ front ++ ys → length front ≤ room → (length front < room → ys ≡ []) → front ≡ take room all
@@ -21,7 +22,7 @@ front_is room front all ys e within ends =
     ]
 
 -- What was read into a memory is the known input, as far as there is room.
-pub read_front : (n : ℕ) (old new : Option (List ℕ)) (xs : List ℕ) → InputWithin (Read n) xs → InputTaken old new (Read n) xs
+pub read_front : (n : ℕ) (old new : Option (List ℕ)) (xs : List ℕ) → InputWithin (Ok n) xs → InputTaken old new (Ok n) xs
     → IfSome old (λ all. take n xs ≡ take (length xs) all)
 unfolding InputTaken
 read_front n None new xs within taken = tt
@@ -30,41 +31,25 @@ read_front n (Some all) (Some ys) xs within taken =
     let size = length-take-le n xs within.0 in
     front_is (length xs) (take n xs) all ys taken.0 (omega (arith, size)) (λ l. taken.1 (omega (arith, size)))
 
--- So the text for what was read is that for the known input.
-pub run_writes : (text_for : List ℕ → List ℕ) (room n : ℕ) (old new puts put : Option (List ℕ)) (xs text : List ℕ) (y : Output)
-    → length xs ≡ room → InputWithin (Read n) xs → InputTaken old new (Read n) xs → text ≡ text_for (take n xs) → OutputPut puts put y text
-    → OnWritten y (IfSome old (λ all. Appends puts put (text_for (take room all))))
-unfolding OutputPut
-run_writes text_for room n None new puts put xs text Written long within taken prints puts_it = tt
-run_writes text_for room n (Some all) new puts put xs text Written long within taken prints puts_it =
-    subst (Appends puts put) (prints ∙ ap text_for (read_front n (Some all) new xs within taken ∙ ap (λ k. take k all) long)) puts_it
-run_writes text_for room n old new puts put xs text Failed long within taken prints puts_it = tt
+-- What holds of what was read holds of the known input, as far as there is room.
+pub read_known : (P : List ℕ → Type 0) (room n : ℕ) (old new : Option (List ℕ)) (xs : List ℕ)
+    → length xs ≡ room → InputWithin (Ok n) xs → InputTaken old new (Ok n) xs → P (take n xs) → IfSome old (λ all. P (take room all))
+read_known P room n None new xs long within taken holds = tt
+read_known P room n (Some all) new xs long within taken holds =
+    subst P (read_front n (Some all) new xs within taken ∙ ap (λ k. take k all) long) holds
 
--- Where the text is empty it need not be written.
-pub run_leaves : (text_for : List ℕ → List ℕ) (room n k : ℕ) (old new puts : Option (List ℕ)) (xs out : List ℕ)
-    → length xs ≡ room → InputWithin (Read n) xs → InputTaken old new (Read n) xs → k ≡ 0 → take k out ≡ text_for (take n xs)
-    → OnWritten Written (IfSome old (λ all. Appends puts puts (text_for (take room all))))
-unfolding OutputPut
-run_leaves text_for room n k old new puts xs out long within taken none prints =
-    let empty : [] ≡ text_for (take n xs) = sym (ap (λ j. take j out) none) ∙ prints in
-    run_writes text_for room n old new puts puts xs [] Written long within taken empty (Appends-nil puts)
+-- So what is told of what was read is told of the known input.
+pub read_tells : {F : Type 0} (g : Once F (Bor (List ℕ) × Unit {0}) (Result (Bor (List ℕ)) (Bor (List ℕ)))) (f : F)
+    (P : Result (Bor (List ℕ)) (Bor (List ℕ)) → Type 0) (room n : ℕ) (old new : Option (List ℕ)) (xs : List ℕ) (shown : Bor (List ℕ))
+    (told : Result (Bor (List ℕ)) (Bor (List ℕ))) → length xs ≡ room → InputWithin (Ok n) xs → InputTaken old new (Ok n) xs
+    → shown.now ≡ take n xs → g.post f (shown, tt) told → P told → IfSome old (λ all. Tells g f (take room all) P)
+read_tells g f P room n old new xs shown told long within taken shows met holds =
+    read_known (λ text. Tells g f text P) room n old new xs long within taken
+    (record { shown = shown; told = told; shows = shows; met = met; holds = holds })
 
--- What holds of a text and what was read holds of it and the known input.
-pub run_writes_some : (P : List ℕ → List ℕ → ℕ → Type 0) (room n k : ℕ) (old new puts put : Option (List ℕ)) (xs out : List ℕ) (y : Output)
-    → length xs ≡ room → InputWithin (Read n) xs → InputTaken old new (Read n) xs → P (take n xs) out k → OutputPut puts put y (take k out)
-    → OnWritten y (IfSome old (λ all. PutSome puts put (P (take room all))))
+-- What is said of a text that was written.
+pub on_written : (P : Type 0) (puts put : Option (List ℕ)) (xs : List ℕ) (y : Result ⊤ Failed) → OutputPut puts put y xs → (Appends puts put xs → P)
+    → OnWritten y P
 unfolding OutputPut
-run_writes_some P room n k None new puts put xs out Written long within taken says puts_it = tt
-run_writes_some P room n k (Some all) new puts put xs out Written long within taken says puts_it =
-    let front : take n xs ≡ take room all = read_front n (Some all) new xs within taken ∙ ap (λ j. take j all) long in
-    (out, k, subst (λ text. P text out k) front says, puts_it)
-run_writes_some P room n k old new puts put xs out Failed long within taken says puts_it = tt
-
--- The same where the text is empty and need not be written.
-pub run_leaves_some : (P : List ℕ → List ℕ → ℕ → Type 0) (room n k : ℕ) (old new puts : Option (List ℕ)) (xs out : List ℕ)
-    → length xs ≡ room → InputWithin (Read n) xs → InputTaken old new (Read n) xs → k ≡ 0 → P (take n xs) out k
-    → OnWritten Written (IfSome old (λ all. PutSome puts puts (P (take room all))))
-unfolding OutputPut
-run_leaves_some P room n k old new puts xs out long within taken none says =
-    let nothing : Appends puts puts (take k out) = rw none (Appends-nil puts) in
-    run_writes_some P room n k old new puts puts xs out Written long within taken says nothing
+on_written P puts put xs (Ok u) puts_it f = f puts_it
+on_written P puts put xs (Err e) puts_it f = tt

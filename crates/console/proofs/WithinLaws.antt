@@ -1,8 +1,7 @@
 -- Laws of the number of bytes that were moved.
-use Rattle.std.proofs.Common.{◌≡◌, ℕ, ◌≤◌, List, rules, length, take, sym, length-take-le}
+use Rattle.std.proofs.Common.{◌≡◌, ℕ, ◌≤◌, List, Result, Ok, rules, length, take, sym, length-take-le}
 use Rattle.io.specs.Counts.{IsPrefixLen}
-use Rattle.console.specs.declared.Input.{Input}
-use Rattle.console.specs.declared.Input.TheVariants.{Read}
+use Rattle.console.specs.declared.Failed.{Failed}
 use Rattle.console.specs.Within.{InputWithin}
 
 -- A number that is within a memory's length counts bytes in front of it.
@@ -10,10 +9,10 @@ pub counts_within : (n : ℕ) (xs : List ℕ) → n ≤ length xs → IsPrefixLe
 counts_within n xs l = (l, sym (length-take-le n xs l))
 
 -- The bytes that were read stand in front of the memory.
-pub read_within : {n : ℕ} {x : Input} (xs : List ℕ) → x ≡ Read n → InputWithin x xs → n ≤ length xs
+pub read_within : {n : ℕ} {x : Result ℕ Failed} (xs : List ℕ) → x ≡ Ok n → InputWithin x xs → n ≤ length xs
 read_within xs e w = (rw e at w).0
 
-pub read_counted : {n : ℕ} {x : Input} (xs : List ℕ) → x ≡ Read n → InputWithin x xs → n ≡ length (take n xs)
+pub read_counted : {n : ℕ} {x : Result ℕ Failed} (xs : List ℕ) → x ≡ Ok n → InputWithin x xs → n ≡ length (take n xs)
 read_counted xs e w = (rw e at w).1
 
 -- What a program that reads its input takes.

@@ -1,3 +1,5 @@
 -- What the contracts of the console cite.
 pub mod Moved
+pub mod Turned
 pub mod Within
+pub mod Told

@@ -1,4 +1,4 @@
--- Laws of the arguments' numbers, and of a trial's text.
+-- Laws of the arguments' numbers, of a trial's text, and of what is told of the input.
 pub mod ArgumentLaws
 pub mod PlayedLaws
-mod ListedLaws
+pub mod ThroughLaws

@@ -1,13 +1,14 @@
 // The complete runs of a floor as text: the total on a line, then a line a run, its rank and the numbers of its steps, separated by
 // single spaces. The contracts bound the lengths; what is printed is tested.
-ghost use Rattle.std.specs.Prelude.{◌≡◌, ◌+◌, ◌*◌, ◌≤◌, ◌<◌, length};
+ghost use Rattle.std.specs.Prelude.{◌+◌, ◌≤◌, ◌<◌, length};
 
-use console::Output;
-use floor::{Floor, Refusal};
+use crate::texts::DESK;
+use console::{Input, Output};
+use floor::{Checked, Floor, Refusal};
 use lister::{Counted, LINE, Listed};
 use printing::Printed;
 use reporting::put_bytes;
-use std::io::{IsTerminal, Write};
+use std::io::{IsTerminal, Read, Write};
 
 // The lines that are listed at a time.
 const LINES: usize = 2048;
@@ -18,35 +19,14 @@ const STEPS: usize = 11;
 // The most bytes of a line: a number of 20 digits, then a space and such a number for each step, and a newline.
 const TEXT: usize = 252;
 
-// Room for the lines.
-fn no_lines() -> [u16; LINES * LINE]
-    ensures { 47104 ≡ length result }
-{
-    [0; LINES * LINE]
-}
-
-// Room for the report of the most steps.
-fn no_report() -> [u16; 1004]
-    ensures { 1004 ≡ length result }
-{
-    [0; 1004]
-}
-
-// Room for a line of text.
-fn no_text() -> [u8; TEXT]
-    ensures { 252 ≡ length result }
-{
-    [0; TEXT]
-}
-
 // Writes the first n bytes of a text to standard output; whether that succeeded.
 fn write_front<W: Write, E: Write>(writer: &mut W, errors: &mut E, text: &[u8], n: usize) -> bool {
-    if n > text.len() {
-        return false;
-    }
-    match console::write(writer, errors, b"desk: standard output", &text[..n]) {
-        Output::Written => true,
-        Output::Failed => false,
+    match text.get(..n) {
+        Some(front) => matches!(
+            console::write(writer, errors, DESK.output, front),
+            Output::Written
+        ),
+        None => false,
     }
 }
 
@@ -57,9 +37,6 @@ fn put_number(out: &mut [u8], at: usize, n: u64) -> usize
 {
     let mut digits = [0u8; 20];
     let k = io::decimal(n, &mut digits);
-    if k > 20 {
-        return at;
-    }
     put_bytes(out, at, &digits[..k])
 }
 
@@ -68,47 +45,34 @@ fn put_total(out: &mut [u8], n: u64) -> usize
     requires { 252 ≤ length out.old }
 {
     let at = put_number(out, 0, n);
-    out[at] = 10;
+    out[at] = b'\n';
     at + 1
-}
-
-// The number of steps that a line tells, 11 at most.
-fn steps_in(line: &[u16]) -> usize
-    requires { 23 ≤ length line.now }
-    ensures { result ≤ 11 }
-{
-    if line[0] > 11 {
-        return STEPS;
-    }
-    line[0] as usize
 }
 
 // The number of step k of a line.
 fn step_number(line: &[u16], k: usize) -> u64
     requires { (k < 11) × (23 ≤ length line.now) }
 {
-    line[2 * k + 1] as u64
+    u64::from(line[2 * k + 1])
 }
 
 // Puts the text of a run of a rank, whose line has the number of its steps in front and then two numbers a step; its length is returned.
 fn put_run(out: &mut [u8], rank: u64, line: &[u16]) -> usize
     requires { (252 ≤ length out.old) × (23 ≤ length line.now) }
 {
-    let steps = steps_in(line);
+    let steps = STEPS.min(usize::from(line[0]));
     let mut at = put_number(out, 0, rank);
-    let mut k: usize = 0;
-    while k < steps {
+    for k in 0..steps {
         out[at] = b' ';
         at = put_number(out, at + 1, step_number(line, k));
-        k += 1;
     }
-    out[at] = 10;
+    out[at] = b'\n';
     at + 1
 }
 
 // Prints the line of a refusal.
-pub fn print_refusal<W: Write, E: Write>(writer: &mut W, errors: &mut E, x: Refusal) {
-    let mut out = no_text();
+fn print_refusal<W: Write, E: Write>(writer: &mut W, errors: &mut E, x: Refusal) {
+    let mut out = [0u8; TEXT];
     let printed = printing::print_refusal(x, &mut out);
     let Printed::Written(n) = printed else {
         return;
@@ -118,7 +82,7 @@ pub fn print_refusal<W: Write, E: Write>(writer: &mut W, errors: &mut E, x: Refu
 
 // Prints the total.
 fn print_total<W: Write, E: Write>(writer: &mut W, errors: &mut E, n: u64) -> bool {
-    let mut out = no_text();
+    let mut out = [0u8; TEXT];
     let k = put_total(&mut out, n);
     write_front(writer, errors, &out, k)
 }
@@ -127,54 +91,33 @@ fn print_total<W: Write, E: Write>(writer: &mut W, errors: &mut E, n: u64) -> bo
 fn print_run<W: Write, E: Write>(writer: &mut W, errors: &mut E, rank: u64, line: &[u16]) -> bool
     requires { 23 ≤ length line.now }
 {
-    let mut out = no_text();
+    let mut out = [0u8; TEXT];
     let k = put_run(&mut out, rank, line);
     write_front(writer, errors, &out, k)
 }
 
-// Whether someone watches standard error: whether it is a terminal.
-fn is_watched<E: IsTerminal>(errors: &E) -> bool {
-    errors.is_terminal()
-}
-
 // Says on standard error how many runs are printed, where it is a terminal. What cannot be said is left.
 fn progress<E: Write + IsTerminal>(errors: &mut E, printed: u64, total: u64) {
-    if !is_watched(errors) {
-        return;
+    if errors.is_terminal() {
+        let _ = writeln!(errors, "desk: {printed} of {total} runs");
     }
-    let _ = writeln!(errors, "desk: {printed} of {total} runs");
 }
 
-// Prints a number of lines, the first being that of a rank; whether that succeeded.
+// Prints lines, the first being that of a rank; whether that succeeded.
 fn print_lines<W: Write, E: Write>(
     writer: &mut W,
     errors: &mut E,
     first: u64,
     lines: &[u16],
-    count: usize,
 ) -> bool
-    requires { (23 * count ≤ length lines.now) × (first + count ≤ 4294967296) }
+    requires { first ≤ 4294967296 }
 {
-    let mut i: usize = 0;
-    while i < count {
-        let at = LINE * i;
-        if !print_run(writer, errors, first + i as u64, &lines[at..at + LINE]) {
+    for (i, line) in lines.chunks_exact(LINE).enumerate() {
+        if !print_run(writer, errors, first + i as u64, line) {
             return false;
         }
-        i += 1;
     }
     true
-}
-
-// The runs of the next window: all that are left, or as many as there are lines.
-fn window(left: u64) -> usize
-    requires { 1 ≤ left }
-    ensures { (1 ≤ result) × ((result ≤ 2048) × (result ≤ left)) }
-{
-    if left > LINES as u64 {
-        return LINES;
-    }
-    left as usize
 }
 
 // Prints all runs of a floor, which has that total, a window at a time.
@@ -191,15 +134,15 @@ fn print_all<W: Write, E: Write + IsTerminal>(
     if !print_total(writer, errors, total) {
         return;
     }
-    let mut first: u64 = 0;
+    let mut first = 0;
     while first < total {
-        let count = window(total - first);
-        let mut lines = no_lines();
+        let count = (total - first).min(LINES as u64);
+        let mut lines = [0u16; LINES * LINE];
         lister::runs_from(f, walls, first, &mut lines);
-        if !print_lines(writer, errors, first, &lines, count) {
+        if !print_lines(writer, errors, first, &lines[..LINE * count as usize]) {
             return;
         }
-        first += count as u64;
+        first += count;
         progress(errors, first, total);
     }
 }
@@ -211,9 +154,7 @@ fn list_all<W: Write, E: Write + IsTerminal>(
     f: Floor,
     walls: &[u16],
 ) {
-    let mut none = [0u16; 1];
-    let counted = lister::runs_from(f, walls, 0, &mut none);
-    match counted {
+    match lister::runs_from(f, walls, 0, &mut [0u16; 1]) {
         Counted::Total(total) => print_all(writer, errors, f, walls, total),
         Counted::Refused(x) => print_refusal(writer, errors, x),
     }
@@ -232,15 +173,8 @@ fn print_one<W: Write, E: Write>(
 {
     let mut line = [0u16; LINE];
     line[0] = steps;
-    let mut t: usize = 0;
-    while t < LINE - 1 {
-        line[t + 1] = report[t];
-        t += 1;
-    }
-    if !print_total(writer, errors, total) {
-        return false;
-    }
-    print_run(writer, errors, rank, &line)
+    line[1..].copy_from_slice(&report[..LINE - 1]);
+    print_total(writer, errors, total) && print_run(writer, errors, rank, &line)
 }
 
 // Lists the run of a rank of a floor.
@@ -251,9 +185,8 @@ fn list_one<W: Write, E: Write>(
     walls: &[u16],
     rank: u64,
 ) {
-    let mut report = no_report();
-    let listed = lister::run_of_rank(f, walls, rank, &mut report);
-    match listed {
+    let mut report = [0u16; 1004];
+    match lister::run_of_rank(f, walls, rank, &mut report) {
         Listed::Run { total, steps } => {
             print_one(writer, errors, total, rank, steps, &report);
         }
@@ -261,21 +194,37 @@ fn list_one<W: Write, E: Write>(
     }
 }
 
-// Lists the runs of a floor that was read, with its walls in front of `walls`: all, or that of a rank.
-pub fn list_floor<W: Write, E: Write + IsTerminal>(
+// Lists the runs of a text that is a sheet, that of a rank or all; of any other text prints the line of its refusal.
+fn list_text<W: Write, E: Write + IsTerminal>(
     writer: &mut W,
     errors: &mut E,
-    f: Floor,
-    walls: &[u16],
-    all: bool,
-    rank: u64,
+    text: &[u8],
+    rank: Option<u64>,
 ) {
-    let k = f.walls as usize;
-    if k > walls.len() {
+    let mut space = sheet::no_walls();
+    let reading = sheet::read(text, &mut space);
+    if let Checked::Refused(x) = reading.answer {
+        return print_refusal(writer, errors, x);
+    }
+    let f = reading.floor;
+    let Some(walls) = space.get(..usize::from(f.walls)) else {
         return;
+    };
+    match rank {
+        Some(rank) => list_one(writer, errors, f, walls, rank),
+        None => list_all(writer, errors, f, walls),
     }
-    if all {
-        return list_all(writer, errors, f, &walls[..k]);
+}
+
+// Lists the runs of the sheet from standard input, that of a rank or all.
+pub fn list_input<R: Read, W: Write, E: Write + IsTerminal>(
+    reader: &mut R,
+    writer: &mut W,
+    errors: &mut E,
+    rank: Option<u64>,
+) {
+    let mut space = io::large_buffer();
+    if let Input::Read(n) = console::read(reader, errors, DESK.input, &mut space) {
+        list_text(writer, errors, &space[..n], rank);
     }
-    list_one(writer, errors, f, &walls[..k], rank)
 }

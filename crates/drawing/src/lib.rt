@@ -4,7 +4,6 @@
 
 ghost use Rattle.std.specs.Prelude.{◌≡◌, ◌+◌, ◌*◌, ◌≤◌, ◌<◌, length};
 ghost use Rattle.laws.specs.Memory.{put};
-ghost use Rattle.floor.specs.Checks.{among};
 ghost use Rattle.drawing.specs.Drawing.{mark_with, carrier_mark, cell_mark, drawn_byte, drawn_floor};
 
 use floor::Floor;
@@ -13,41 +12,25 @@ use floor::Floor;
 pub type Places = [u16; 8];
 
 // The mark of a cell in which carrier k + 1 is too.
+#[tactic(auto, unfolding(crate::specs::Drawing::mark_with))]
 fn mark_with(mark: u8, k: usize) -> u8
     requires { k < 8 }
     ensures { result ≡ mark_with mark k }
 {
-    if mark == 46 { 49 + k as u8 } else { 42 }
+    if mark == b'.' { b'1' + k as u8 } else { b'*' }
 }
 
 // The mark of a cell for the carriers.
 fn carrier_mark(places: Places, c: u16) -> u8
     ensures { result ≡ carrier_mark places c 8 }
 {
-    let mut mark: u8 = 46;
-    let mut k: usize = 0;
-    while k < 8 {
+    let mut mark = b'.';
+    for k in 0..8 {
         if places[k] == c {
             mark = mark_with(mark, k);
         }
-        k += 1;
     }
     mark
-}
-
-// Whether c is one of the first k walls.
-fn is_wall(walls: &[u16], k: usize, c: u16) -> bool
-    requires { k ≤ length walls.now }
-    ensures { result ≡ among walls.now k c }
-{
-    let mut i: usize = 0;
-    while i < k {
-        if walls[i] == c {
-            return true;
-        }
-        i += 1;
-    }
-    false
 }
 
 // The mark of a cell.
@@ -55,8 +38,8 @@ fn cell_mark(f: Floor, walls: &[u16], places: Places, c: u16) -> u8
     requires { f.walls ≤ length walls.now }
     ensures { result ≡ cell_mark f walls.now places c }
 {
-    if is_wall(walls, f.walls as usize, c) {
-        return 35;
+    if walls[..f.walls as usize].contains(&c) {
+        return b'#';
     }
     carrier_mark(places, c)
 }
@@ -69,7 +52,7 @@ fn byte_at(f: Floor, walls: &[u16], places: Places, k: usize) -> u8
     let w = f.width as usize;
     let column = k % (w + 1);
     if column == w {
-        return 10;
+        return b'\n';
     }
     cell_mark(f, walls, places, (k / (w + 1) * w + column) as u16)
 }
@@ -81,10 +64,8 @@ pub fn put_floor(f: Floor, walls: &[u16], places: Places, out: &mut [u8]) -> usi
     ensures size { result ≡ (f.width + 1) * f.height }
 {
     let n = (f.width as usize + 1) * f.height as usize;
-    let mut k: usize = 0;
-    while k < n {
+    for k in 0..n {
         out[k] = byte_at(f, walls, places, k);
-        k += 1;
     }
     n
 }

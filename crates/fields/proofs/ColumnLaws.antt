@@ -1,5 +1,5 @@
 -- The columns of lines one behind the other: what good form tells of the next one, and how far they go.
-use Prim.Native.Nat.{ℕ, zero, suc, ◌+◌, ◌*◌, ◌≤◌, ◌<◌}
+use Prim.Native.Nat.{ℕ, zero, suc, ◌+◌, ◌*◌, ◌≤◌}
 use native.Mathlib.Omega.{arith}
 use mathlib.Core.Path.{◌≡◌}
 use mathlib.Core.List.{List}
@@ -7,8 +7,10 @@ use Rattle.laws.specs.Verdict.{Verdict, passed, in_turn, Outcome, ◌gives◌}
 use Rattle.laws.proofs.VerdictLaws.{then_both}
 use Rattle.fields.specs.Field.{number_at}
 use Rattle.fields.specs.Form.{counted_form, counted_length, past_counted, past_pair, column_past, lines_form, line_form}
+use Rattle.std.specs.Prelude.{Ok}
+use Rattle.fields.specs.Reached.{reached_of}
+use Rattle.fields.proofs.ReachedLaws.{reaches}
 use Rattle.fields.proofs.CountLaws.{count_tells}
-use Rattle.fields.proofs.ReaderLaws.{Along}
 
 -- What a counted line in good form tells of its count.
 pub counted_tells : (text : List ℕ) (at : ℕ) → counted_form text at ≡ passed
@@ -20,6 +22,17 @@ counted_tells text at h =
     let c = then_both _ _ b.1 in
     count_tells text (at + 10) c.0
 
+-- A counted line that was read is at most 56 bytes long, and a line of two fields 11.
+pub counted_near : (text : List ℕ) (at x : ℕ) → reached_of (Ok x) ≡ (counted_form text at gives past_counted text at) → x ≤ at + 56
+unfolding past_counted counted_length
+counted_near text at x e =
+    let r = reaches _ _ _ e in
+    omega (arith, r.1, counted_tells text at r.0)
+
+pub pair_near : (z : Verdict) (at x : ℕ) → reached_of (Ok x) ≡ (z gives past_pair at) → x ≤ at + 11
+unfolding past_pair
+pair_near z at x e = omega (arith, (reaches _ _ _ e).1)
+
 -- Counted lines in good form: each is at most 56 bytes long.
 pub counted_columns : (text : List ℕ) (at i : ℕ) → lines_form (counted_form text) (past_counted text) at i ≡ passed
     → column_past (past_counted text) at i ≤ at + 56 * i
@@ -30,19 +43,11 @@ counted_columns text at (suc i) h =
     let n = counted_tells text (column_past (past_counted text) at i) b.1 in
     omega (arith, n.1, counted_columns text at i b.0)
 
-pub counted_low : (text : List ℕ) (at k : ℕ) → (at ≤ 60000) × (k ≤ 8) → (i column : ℕ)
-    → Along (counted_form text) (past_counted text) at k i column → i < k → column ≤ 64000
-counted_low text at k asked i column h l = omega (arith, asked.0, asked.1, h.arrived, counted_columns text at i h.good)
-
 -- Lines of two fields.
 pub pair_columns : (at i : ℕ) → column_past past_pair at i ≡ at + 11 * i
 unfolding column_past past_pair
 pair_columns at zero = omega arith
 pair_columns at (suc i) = omega (arith, pair_columns at i)
-
-pub pair_low : (text : List ℕ) (at k : ℕ) → (at ≤ 50000) × (k ≤ 1023) → (i column : ℕ)
-    → Along (λ (p : ℕ). line_form text p 2) past_pair at k i column → i < k → column ≤ 65000
-pair_low text at k asked i column h l = omega (arith, asked.0, asked.1, h.arrived, pair_columns at i)
 
 -- A line of two fields, and the rest of a counted line: the column past it.
 pub pair_line : (x : Verdict) (at : ℕ) {o : Outcome ℕ} → o ≡ (x gives (at + 5 * 2 + 1)) → o ≡ (x gives past_pair at)

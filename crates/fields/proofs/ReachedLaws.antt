@@ -35,6 +35,10 @@ pub refuses_so : {y : Verdict} (x : Refusal) (column : ℕ) → refused (number_
 unfolding reached_of outcome_by ◌gives◌
 refuses_so x column h = rw (← h) refl
 
+pub malformed_so : {y : Verdict} (x : Refusal) (p column : ℕ) → x.place ≡ p → number_of x.reason ≡ 1 → refused 1 p ≡ y
+    → reached_of (Err x) ≡ (y gives column)
+malformed_so x p column m n h = refuses_so x column (rw (m, n) h)
+
 -- After a check that reached its column the rest is asked: what it answers, the whole answers.
 pub goes_on : {o : Outcome ℕ} (n : ℕ) (z z' : Verdict) (column column' : ℕ) → reached_of (Ok n) ≡ (z gives column)
     → o ≡ (z' gives column') → o ≡ ((z then z') gives column')
@@ -49,7 +53,7 @@ stops_at y x z z' column column' h e =
     rw (p.1, p.2, line_refused x z column h) (refuses_so x column' refl)
 
 -- What the answers of such functions take: of one that tests a slot, and of a chain.
-pub ruleset slots = (arrives, refuses_so, demands)
+pub ruleset slots = (arrives, malformed_so, demands)
 
 pub ruleset way = (goes_on, stops_at)
 

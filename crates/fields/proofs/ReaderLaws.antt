@@ -1,5 +1,6 @@
 -- The loop over lines one behind the other: how far the reader has come, and what is known there.
-use Prim.Native.Nat.{ℕ, ◌+◌, ◌≤◌, ◌<◌}
+use Prim.Native.Nat.{ℕ, ◌+◌, ◌*◌, ◌≤◌, ◌<◌}
+use native.Mathlib.Nat.{mul-add, mul-le-mul_left}
 use native.Mathlib.Omega.{arith}
 use native.Mathlib.Numerals.{add-one}
 use mathlib.Core.Path.{◌≡◌, refl, sym}
@@ -59,3 +60,12 @@ module _ (form : ℕ → Verdict) (past : ℕ → ℕ) (at n : ℕ) where
         let good = rw last at h.good in
         let arrived = rw last at h.arrived in
         rw (← arrived) (arrives column (sym good))
+
+-- A column that lines of some length lead to: one line further, and before the last line.
+pub low_next : (c d at longest i : ℕ) → c ≤ at + longest * i → d ≤ c + longest → d ≤ at + longest * (i + 1)
+low_next c d at longest i l g = rw (mul-add longest i 1) (omega (arith, l, g))
+
+pub low_yet : (c at longest i n : ℕ) → i < n → c ≤ at + longest * i → c ≤ at + longest * n
+low_yet c at longest i n h l =
+    let more : longest * i ≤ longest * n = mul-le-mul_left longest (omega arith) in
+    omega (arith, l, more)

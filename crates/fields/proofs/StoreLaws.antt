@@ -1,26 +1,34 @@
--- Five stores one behind the other: each has room, and together they are a block of five bytes.
-use Prim.Native.Nat.{ℕ, ◌+◌, ◌%◌, ◌≤◌, ◌<◌}
+-- Five bytes of a text, and five that are copied into one: a part of it, and a block.
+use Prim.Native.Nat.{ℕ, zero, suc, ◌<◌, ◌+◌, ◌-◌, ◌≤◌}
 use native.Mathlib.Omega.{arith}
-use mathlib.Core.Path.{◌≡◌}
-use mathlib.Core.List.{List}
-use lib.Dec.{lit<}
-use lib.ListN.{length, set, length-set}
-use Rattle.laws.specs.Memory.{put}
-use Rattle.laws.proofs.PutLaws.{put_five}
-use Rattle.fields.specs.Field.{column, field_of}
+use mathlib.Core.Path.{◌≡◌, refl}
+use mathlib.Core.List.{List, [], ◌∷◌}
+use borrow.Rule.Slice.PartMut.{put_mid}
+use lib.ListN.{length, get_or, take, drop}
+use Rattle.laws.specs.Memory.{put, part}
+use lib.Seq.{drop-drop}
+use Rattle.laws.proofs.PartLaws.{part_is}
 
-pub room_of_five : (m : List ℕ) (at i : ℕ) → at + 5 ≤ length m → i < 5 → at + i < length m
-room_of_five m at i l h = omega arith
+-- What is copied into a part of a memory is a block there.
+pub put_copied : (m xs ys : List ℕ) (at n : ℕ) → ys ≡ xs → length xs ≡ n → put_mid at (at + n - at) m ys ≡ put m at xs
+unfolding put
+put_copied m xs ys at n e l =
+    let q : at + n - at ≡ length xs = omega (arith, l) in
+    rw (q, e, drop-drop (length xs) at m)
 
-pub room_kept : (m : List ℕ) (n i x : ℕ) → n ≤ length m → n ≤ length (set m i x)
-room_kept m n i x l = rw length-set l
+-- The five bytes from a column on.
+module _ (text : List ℕ) (at : ℕ) where
+  abbrev five : List ℕ
+  five = get_or text at 0 ∷ get_or text (at + 1) 0 ∷ get_or text (at + 2) 0 ∷ get_or text (at + 3) 0 ∷ get_or text (at + 4) 0 ∷ []
 
-pub ruleset stores = (room_of_five, room_kept, lit<)
-
--- Five columns of a number are its field.
-pub put_columns : (m : List ℕ) (at x : ℕ) {x₁ x₂ x₃ x₄ x₅ : ℕ} → x₁ ≡ column 10000 x → x₂ ≡ column 1000 x → x₃ ≡ column 100 x →
-    x₄ ≡ column 10 x
-    → x₅ ≡ 48 + x % 10 → at + 5 ≤ length m
-    → set (set (set (set (set m at x₁) (at + 1) x₂) (at + 2) x₃) (at + 3) x₄) (at + 4) x₅ ≡ put m at (field_of x)
-unfolding field_of
-put_columns m at x x₁ x₂ x₃ x₄ x₅ l = rw (x₁, x₂, x₃, x₄, x₅) (put_five m at _ _ _ _ _ l)
+  pub five_bytes : at + 5 ≤ length text → take (at + 5 - at) (drop at text) ≡ five
+  unfolding part
+  five_bytes l = let q : at + 5 - at ≡ 5 = omega arith in rw q (part_is text at 5 five l refl byte)
+    where
+      byte : (i : ℕ) → i < 5 → get_or text (at + i) 0 ≡ get_or five i 0
+      byte zero h = let e : at + 0 ≡ at = omega arith in rw e
+      byte (suc zero) h = refl
+      byte (suc (suc zero)) h = refl
+      byte (suc (suc (suc zero))) h = refl
+      byte (suc (suc (suc (suc zero)))) h = refl
+      byte (suc (suc (suc (suc (suc i))))) h = absurd (omega arith)

@@ -1,49 +1,83 @@
 -- The form of a field without its number: what the tests of the code answer, byte by byte, and what they mean.
-use Prim.Native.Nat.{ℕ, ◌≤◌}
+use Prim.Native.Nat.{ℕ, ◌-◌, ◌≤◌, ◌<◌}
 use native.Mathlib.Omega.{arith}
-use mathlib.Core.Path.{◌≡◌, refl, sym, ◌∙◌}
-use mathlib.Core.Bool.{Bool, true, false, not, ◌&&◌, and-eq-true_iff, and-true}
+use mathlib.Core.Path.{◌≡◌, refl, sym, ◌∙◌, ap}
+use mathlib.Core.Bool.{Bool, true, false, ◌&&◌, and-eq-true_iff}
 use mathlib.Core.Logic.{◌⊎◌, inl, inr}
 use mathlib.Core.List.{List, [], ◌∷◌}
-use borrow.Author.Tests.{eq-eqb, ne_eqb, le-leb, leb-true, not-true, not-false}
+use borrow.Author.Tests.{eq-eqb, ne_eqb, le-leb, leb-true}
+use lib.ListN.{length, get_or, take, drop}
+use lib.Seq.{take_all}
+use borrow.Author.Rules.{rules}
+use Rattle.std.specs.List.{list_all}
+use Rattle.std.specs.Char.{is_ascii_digit}
 use Rattle.floor.specs.Checks.{within}
 use Rattle.laws.proofs.Tests.{eq_or_ne}
 use Rattle.fields.specs.Field.{are_digits, is_written}
 
--- A byte before others, as the code tests it.
-module _ (byte : ℕ) where
-  pub one_digit : {x : Bool} → x ≡ within 48 57 byte → x ≡ are_digits (byte ∷ [])
-  unfolding are_digits
-  one_digit e = rw (and-true (within 48 57 byte)) e
+-- Bytes that are all digits', as `all` tests them.
+pub all_digits : (xs : List ℕ) → list_all (within 48 57) xs ≡ are_digits xs
+unfolding are_digits
+all_digits [] = refl
+all_digits (x ∷ xs) = rw (all_digits xs)
 
-  pub digits_stop : (xs : List ℕ) {x : Bool} → x ≡ within 48 57 byte → not x ≡ true → false ≡ are_digits (byte ∷ xs)
-  unfolding are_digits
-  digits_stop xs {x} e n = rw (← e, not-true x n) refl
+-- The bytes behind the first.
+abbrev rest_of : List ℕ → List ℕ
+rest_of xs = take (length xs - 1) (drop 1 xs)
 
-  pub digits_on : (xs : List ℕ) {x y : Bool} → x ≡ within 48 57 byte → not x ≡ false → y ≡ are_digits xs → y ≡ are_digits (byte ∷ xs)
-  unfolding are_digits
-  digits_on xs {x} e n h = rw (← e, not-false x n) h
+rest_is : (x : ℕ) (xs : List ℕ) → rest_of (x ∷ xs) ≡ xs
+rest_is x xs = take_all (length (x ∷ xs) - 1) xs (omega arith)
 
-  pub written_one : {x : Bool} → x ≡ within 48 57 byte → x ≡ is_written (byte ∷ [])
+-- What the code answers of bytes: of none, of one, and of several by the first of them.
+module _ (xs : List ℕ) where
+  pub written_none : length xs < 1 → false ≡ is_written xs
   unfolding is_written
-  written_one e = e
+  written_none l = go xs l
+    where
+      go : (xs : List ℕ) → length xs < 1 → false ≡ is_written xs
+      go [] l = refl
+      go (x ∷ xs) l = absurd (omega arith)
 
-  pub written_space : (byte' : ℕ) (xs : List ℕ) {x : Bool} → byte ≡ 32 → x ≡ is_written (byte' ∷ xs) → x ≡ is_written (byte ∷ byte' ∷ xs)
+  pub written_last : {r : Bool} → 1 ≤ length xs → length xs < 2 → r ≡ is_ascii_digit (get_or xs 0 0) → r ≡ is_written xs
+  unfolding is_written within
+  written_last {r} l g e = go xs l g e
+    where
+      go : (xs : List ℕ) → 1 ≤ length xs → length xs < 2 → r ≡ is_ascii_digit (get_or xs 0 0) → r ≡ is_written xs
+      go [] l g e = absurd (omega arith)
+      go (x ∷ []) l g e = e
+      go (x ∷ y ∷ xs) l g e = absurd (omega arith)
+
+  pub written_space : {r : Bool} → 2 ≤ length xs → get_or xs 0 0 ≡ 32 → r ≡ is_written (rest_of xs) → r ≡ is_written xs
   unfolding is_written
-  written_space byte' xs s h = rw (eq-eqb byte 32 s) h
+  written_space {r} l s e = go xs l s e
+    where
+      go : (xs : List ℕ) → 2 ≤ length xs → get_or xs 0 0 ≡ 32 → r ≡ is_written (rest_of xs) → r ≡ is_written xs
+      go [] l s e = absurd (omega arith)
+      go (x ∷ []) l s e = absurd (omega arith)
+      go (x ∷ y ∷ xs) l s e = rw (eq-eqb x 32 s) (e ∙ ap is_written (rest_is x (y ∷ xs)))
 
-  pub written_stop : (byte' : ℕ) (xs : List ℕ) {x : Bool} → (byte ≡ 32 → ⊥) → x ≡ within 49 57 byte → not x ≡ true
-      → false ≡ is_written (byte ∷ byte' ∷ xs)
+  pub written_first : {r s : Bool} → 2 ≤ length xs → (get_or xs 0 0 ≡ 32 → ⊥) → s ≡ within 49 57 (get_or xs 0 0) → s ≡ true
+      → r ≡ are_digits (rest_of xs) → r ≡ is_written xs
   unfolding is_written
-  written_stop byte' xs {x} s e n = rw (ne_eqb byte 32 s, ← e, not-true x n) refl
+  written_first {r} {s} l n t h e = go xs l n t e
+    where
+      go : (xs : List ℕ) → 2 ≤ length xs → (get_or xs 0 0 ≡ 32 → ⊥) → s ≡ within 49 57 (get_or xs 0 0) → r ≡ are_digits (rest_of xs)
+          → r ≡ is_written xs
+      go [] l n t e = absurd (omega arith)
+      go (x ∷ []) l n t e = absurd (omega arith)
+      go (x ∷ y ∷ xs) l n t e = rw (ne_eqb x 32 n, ← t, h) (e ∙ ap are_digits (rest_is x (y ∷ xs)))
 
-  pub written_on : (byte' : ℕ) (xs : List ℕ) {x y : Bool} → (byte ≡ 32 → ⊥) → x ≡ within 49 57 byte → not x ≡ false →
-      y ≡ are_digits (byte' ∷ xs)
-      → y ≡ is_written (byte ∷ byte' ∷ xs)
+  pub written_wrong : {s : Bool} → 2 ≤ length xs → (get_or xs 0 0 ≡ 32 → ⊥) → s ≡ within 49 57 (get_or xs 0 0) → s ≡ false
+      → s ≡ is_written xs
   unfolding is_written
-  written_on byte' xs {x} s e n h = rw (ne_eqb byte 32 s, ← e, not-false x n) h
+  written_wrong {s} l n t h = go xs l n t
+    where
+      go : (xs : List ℕ) → 2 ≤ length xs → (get_or xs 0 0 ≡ 32 → ⊥) → s ≡ within 49 57 (get_or xs 0 0) → s ≡ is_written xs
+      go [] l n t = absurd (omega arith)
+      go (x ∷ []) l n t = absurd (omega arith)
+      go (x ∷ y ∷ xs) l n t = rw (ne_eqb x 32 n, ← t, h) refl
 
-pub ruleset written = (one_digit, digits_stop, digits_on, written_one, written_space, written_stop, written_on)
+pub ruleset written = (rules, written_none, written_last, written_space, written_first, written_wrong)
 
 -- What the tests mean: a number within two bounds, digits, a space or the first digit.
 pub and_so : {x y : Bool} → x ≡ true → y ≡ true → (x && y) ≡ true

@@ -1,5 +1,6 @@
 // What must stand at a column of a sheet: a field, a newline, or nothing more. Refusal 1 says where it does not.
 ghost use Rattle.std.specs.Prelude.{◌≡◌, ◌+◌, ◌≤◌, ◌<◌, length};
+ghost use Rattle.floor.specs.Answers.{number_of};
 ghost use Rattle.laws.specs.Verdict.{◌gives◌};
 ghost use Rattle.fields.specs.Form.{field_form, newline_form, count_form, end_form};
 ghost use Rattle.fields.specs.Reached.{reached_of};
@@ -7,22 +8,26 @@ ghost use Rattle.fields.specs.Reached.{reached_of};
 use crate::field;
 use floor::{Reason, Refusal};
 
+// Refusal 1 with a byte offset.
+fn malformed(place: usize) -> Refusal
+    ensures { (number_of result.reason ≡ 1) × (result.place ≡ place) }
+{
+    Refusal {
+        reason: Reason::Form,
+        place,
+    }
+}
+
 // The field at a column; the column behind it.
 pub fn field_form(text: &[u8], at: usize) -> Result<usize, Refusal>
     requires { at ≤ 65536 }
     ensures { reached_of result ≡ (field_form text.now at gives (at + 5)) }
 {
     if text.len() < at + 5 {
-        return Err(Refusal {
-            reason: Reason::Form,
-            place: text.len(),
-        });
+        return Err(malformed(text.len()));
     }
     if !field::is_field(text, at) {
-        return Err(Refusal {
-            reason: Reason::Form,
-            place: at,
-        });
+        return Err(malformed(at));
     }
     Ok(at + 5)
 }
@@ -32,21 +37,12 @@ pub fn count_form(text: &[u8], at: usize) -> Result<usize, Refusal>
     requires { at ≤ 65536 }
     ensures { reached_of result ≡ (count_form text.now at gives (at + 5)) }
 {
-    let column = field_form(text, at)?;
+    field_form(text, at)?;
     let x = field::number(text, at);
-    if x < 1 {
-        return Err(Refusal {
-            reason: Reason::Form,
-            place: at,
-        });
+    if !(1..=4).contains(&x) {
+        return Err(malformed(at));
     }
-    if 4 < x {
-        return Err(Refusal {
-            reason: Reason::Form,
-            place: at,
-        });
-    }
-    Ok(column)
+    Ok(at + 5)
 }
 
 // The newline at a column; the column behind it.
@@ -55,16 +51,10 @@ pub fn newline_form(text: &[u8], at: usize) -> Result<usize, Refusal>
     ensures { reached_of result ≡ (newline_form text.now at gives (at + 1)) }
 {
     if text.len() <= at {
-        return Err(Refusal {
-            reason: Reason::Form,
-            place: text.len(),
-        });
+        return Err(malformed(text.len()));
     }
     if text[at] != b'\n' {
-        return Err(Refusal {
-            reason: Reason::Form,
-            place: at,
-        });
+        return Err(malformed(at));
     }
     Ok(at + 1)
 }
@@ -74,10 +64,7 @@ pub fn end_form(text: &[u8], at: usize) -> Result<usize, Refusal>
     ensures { reached_of result ≡ (end_form text.now at gives at) }
 {
     if at < text.len() {
-        return Err(Refusal {
-            reason: Reason::Form,
-            place: at,
-        });
+        return Err(malformed(at));
     }
     Ok(at)
 }

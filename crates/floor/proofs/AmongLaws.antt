@@ -6,10 +6,13 @@ use native.Mathlib.Nat.{zero-add, suc-add}
 use borrow.Author.Rules.{rules}
 use borrow.Author.Tests.{eq-eqb, ne_eqb, eqb-true}
 use mathlib.Core.Path.{◌≡◌, refl, sym}
-use mathlib.Core.Bool.{true, false, or-true, true≢false}
+use mathlib.Core.Bool.{true, false, or-true, or-false, true≢false}
 use mathlib.Core.Logic.{⊎_elim}
 use mathlib.Core.List.{List}
-use lib.ListN.{get_or}
+use lib.ListN.{get_or, length, take}
+use lib.Seq.{take-suc}
+use Rattle.std.specs.List.{list_any}
+use Rattle.std.proofs.lemmas.List.Folds.{list_any-append}
 use lib.Dec.{eqb}
 use Rattle.laws.proofs.Tests.{or_cases}
 use Rattle.floor.specs.Checks.{among}
@@ -25,6 +28,13 @@ module _ (xs : List ℕ) (c : ℕ) where
   pub among_more : (i : ℕ) → among xs i c ≡ false → (get_or xs i 0 ≡ c → ⊥) → among xs (i + 1) c ≡ false
   unfolding among
   among_more i h n = rw (add-one, h, ne_eqb (get_or xs i 0) c n)
+
+  -- What `contains` says of the first numbers.
+  pub among_any : (n : ℕ) → n ≤ length xs → list_any (λ (y : ℕ). eqb y c) (take n xs) ≡ among xs n c
+  unfolding among
+  among_any zero l = refl
+  among_any (suc n) l =
+      rw (take-suc xs n 0 l, list_any-append, among_any n (omega arith), or-false) refl
 
   -- What is among the first numbers is among more of them.
   among_kept : (i d : ℕ) → among xs i c ≡ true → among xs (d + i) c ≡ true

@@ -30,12 +30,7 @@ fn among(xs: &[u16], k: usize, c: u16) -> bool
     requires { k ≤ length xs.now }
     ensures { result ≡ among xs.now k c }
 {
-    for i in 0..k {
-        if xs[i] == c {
-            return true;
-        }
-    }
-    false
+    xs[..k].contains(&c)
 }
 
 // Whether a cell number lies in the grid.

@@ -21,9 +21,9 @@ fn start_mark(f: Floor, c: u16) -> u8
 {
     let mut starts = [0u8; 8];
     if maps::put_starts(f, c, &mut starts, 0) == 0 {
-        return 46;
+        return b'.';
     }
-    45
+    b'-'
 }
 
 // What cell c shows where no carrier is.
@@ -32,17 +32,15 @@ fn still_mark(f: Floor, walls: &[u16], c: u16) -> u8
     ensures { result ≡ still_mark f walls.now c }
 {
     if maps::is_among(walls, f.walls as usize, c) {
-        return 35;
+        return b'#';
     }
     let mut docks = [0u8; 8];
     let n = maps::put_docks(f, c, &mut docks, 0);
-    if n == 0 {
-        return start_mark(f, c);
+    match n {
+        0 => start_mark(f, c),
+        1 => docks[0],
+        _ => b'+',
     }
-    if n == 1 {
-        return docks[0];
-    }
-    43
 }
 
 // Puts what the carrier with i above it puts into cell c at beat t; the column behind it is returned.
@@ -63,7 +61,7 @@ fn put_carrier(
         return put_stranded(f, c, i, out, at);
     }
     if own[tag + 1 + t] == c {
-        return put_bytes(out, at, &[49 + i as u8]);
+        return put_bytes(out, at, &[b'1' + i as u8]);
     }
     at
 }
@@ -74,7 +72,7 @@ fn put_stranded(f: Floor, c: u16, i: usize, out: &mut [u8], at: usize) -> usize
     ensures { PutAt (present_of f 0 c i none) out.old at out.new result }
 {
     if f.starts[i] == c {
-        return put_bytes(out, at, &[65 + i as u8]);
+        return put_bytes(out, at, &[b'A' + i as u8]);
     }
     at
 }
@@ -86,10 +84,8 @@ fn put_carriers(f: Floor, own: &[u16], t: usize, c: u16, out: &mut [u8]) -> usiz
 {
     let n = f.carriers as usize;
     let mut end: usize = 0;
-    let mut i: usize = 0;
-    while i < n {
+    for i in 0..n {
         end = put_carrier(f, own, t, c, i, out, end);
-        i += 1;
     }
     end
 }
@@ -101,13 +97,11 @@ fn frame_mark(f: Floor, walls: &[u16], own: &[u16], t: usize, c: u16) -> u8
 {
     let mut there = [0u8; 8];
     let n = put_carriers(f, own, t, c, &mut there);
-    if n == 0 {
-        return still_mark(f, walls, c);
+    match n {
+        0 => still_mark(f, walls, c),
+        1 => there[0],
+        _ => b'*',
     }
-    if n == 1 {
-        return there[0];
-    }
-    42
 }
 
 // Puts the marks of all cells at beat t.
@@ -117,10 +111,8 @@ pub fn put_cells(f: Floor, walls: &[u16], own: &[u16], t: usize, out: &mut [u8])
         out.old 0 out.new result }
 {
     let mut at: usize = 0;
-    let mut c: u16 = 0;
-    while c < 1024 {
+    for c in 0..1024 {
         at = put_bytes(out, at, &[frame_mark(f, walls, own, t, c)]);
-        c += 1;
     }
     at
 }

@@ -62,10 +62,8 @@ fn put_beats(f: Floor, walls: &[u16], own: &[u16], out: &mut [u8], at: usize) ->
 {
     let n = f.horizon as usize + 1;
     let mut end = at;
-    let mut t: usize = 0;
-    while t < n {
+    for t in 0..n {
         end = put_next(f, walls, own, t, out, end);
-        t += 1;
     }
     end
 }

@@ -32,7 +32,7 @@ fn put_arrival(f: Floor, own: &[u16], i: usize, out: &mut [u8], at: usize) -> us
     ensures { PutAt (arrival_line f (answer_in own.now) i) out.old at out.new result }
 {
     let n1 = put_bytes(out, at, b"carrier ");
-    let n2 = put_bytes(out, n1, &[49 + i as u8]);
+    let n2 = put_bytes(out, n1, &[b'1' + i as u8]);
     put_words(f, own, i, out, n2)
 }
 
@@ -44,10 +44,8 @@ pub fn put_arrivals(f: Floor, own: &[u16], out: &mut [u8], at: usize) -> usize
 {
     let n = f.carriers as usize;
     let mut end = at;
-    let mut i: usize = 0;
-    while i < n {
+    for i in 0..n {
         end = put_arrival(f, own, i, out, end);
-        i += 1;
     }
     end
 }

@@ -206,15 +206,3 @@ taken_parked g m table then after j a b x parked old f e new = record { tidy = n
               (k ∙ e ∙ sym (parked.keeps a (omega arith) parked.upto)))
               (λ (v : a ≤ t). p.1 t (omega arith) (omega arith) (omega arith) (k ∙ e ∙ sym (parked.keeps t v h))) (lt_or_le t a),
         )
-
--- A view keeps its last cell; it keeps it from a beat before on.
-pub parked_last : (m : List ℕ) (j h : ℕ) → Parked m j h h
-parked_last m j h = record { upto = omega arith; keeps = λ t l u. let e : t ≡ h = omega arith in rw e }
-
-pub parked_more : (m : List ℕ) (j a h : ℕ) → Parked m j a h → view_cell m j (a - 1) ≡ view_cell m j h → Parked m j (a - 1) h
-parked_more m j a h parked e =
-    record {
-      upto = omega (arith, parked.upto);
-      keeps = λ t l u. ⊎_elim (λ (v : t < a). let z : t ≡ a - 1 = omega arith in rw z e) (λ (v : a ≤ t). parked.keeps t v u)
-          (lt_or_le t a);
-    }

@@ -4,7 +4,7 @@ ghost use Rattle.bitrows.specs.Rows.{filled, Clean};
 ghost use Rattle.layers.specs.Table.{Grid, Fits, Tidy, row_of};
 ghost use Rattle.layers.specs.FreeTable.{IsFreeTable, OneMore, FreeBeats, TakenCell, Parked};
 
-use crate::stripes::{load, save};
+use crate::beats::held_from;
 use crate::table::{ROWS, word};
 use crate::{SearchGrid, place_of};
 use records::view_cell;
@@ -15,34 +15,21 @@ fn striped(rows: &[u32]) -> [u32; ROWS]
     ensures { result ≡ filled (replicate 32 0) (λ j. get_or rows.now (row_of j) 0) 32 }
 {
     let mut x = [0u32; ROWS];
-    let mut j: usize = 0;
-    while j < ROWS {
+    for j in 0..ROWS {
         x[j] = rows[j % 4 * 8 + j / 4];
-        j += 1;
     }
     x
 }
 
-// The free cells at the first n beats of an empty table: at the first, and from there from beat to beat.
+// The free cells at the first n beats of an empty table.
 fn fill_free(table: &mut [u32], free: &[u32], n: usize)
     requires { (table.old ≡ replicate 2049 0) × (length free.now ≡ 32) × (1 ≤ n) × (n ≤ 64) }
     ensures { FreeBeats free.now n table.new }
 {
     let words = striped(free);
-    bitrows::put_rows(table, 0, &words, ROWS);
-    let mut t: usize = 1;
-    while t < n {
-        let x = load(table, (t - 1) * ROWS);
-        save(table, t * ROWS, x);
-        t += 1;
+    for t in 0..n {
+        bitrows::put_rows(table, t * ROWS, &words, ROWS);
     }
-}
-
-// The beat before t, or 0.
-fn beat_before(t: usize) -> usize
-    ensures { result ≡ t - 1 }
-{
-    if 0 < t { t - 1 } else { 0 }
 }
 
 // Takes cell c out of the beats from `from` to before `end`; a number that is no cell changes nothing.
@@ -52,10 +39,8 @@ fn drop_cell(g: SearchGrid, table: &mut [u32], from: usize, end: usize, c: usize
 {
     if c < g.cells {
         let p = place_of(g, c);
-        let mut t = from;
-        while t < end {
+        for t in from..end {
             bitrows::drop(table, word(t, p.row), p.column);
-            t += 1;
         }
     }
 }
@@ -66,14 +51,7 @@ fn parked_from(views: &[u16], j: usize, horizon: usize) -> usize
     ensures { Parked views.now j result horizon }
 {
     let last = view_cell(views, j, horizon);
-    let mut t = horizon;
-    while 0 < t {
-        if view_cell(views, j, t - 1) != last {
-            return t;
-        }
-        t -= 1;
-    }
-    0
+    held_from(horizon, |t| view_cell(views, j, t) == last)
 }
 
 // Takes the cells of view j, besides those of the views before it, out of the free table: each at its beat and the beats beside it, the
@@ -84,14 +62,12 @@ pub fn take_one(g: SearchGrid, table: &mut [u32], views: &[u16], j: usize)
 {
     let last_beat = g.horizon;
     let a = parked_from(views, j, last_beat);
-    let mut t: usize = 0;
-    while t < a {
+    for t in 0..a {
         let c = view_cell(views, j, t);
-        drop_cell(g, table, beat_before(t), t + 2, c);
-        t += 1;
+        drop_cell(g, table, t.saturating_sub(1), t + 2, c);
     }
     let last = view_cell(views, j, last_beat);
-    drop_cell(g, table, beat_before(a), last_beat + 1, last);
+    drop_cell(g, table, a.saturating_sub(1), last_beat + 1, last);
 }
 
 // The free table of a scene in an empty table.
@@ -101,9 +77,7 @@ pub fn make(g: SearchGrid, k: usize, table: &mut [u32], free: &[u32], views: &[u
     ensures { IsFreeTable g k free.now views.now table.new }
 {
     fill_free(table, free, g.horizon + 1);
-    let mut j: usize = 0;
-    while j < k {
+    for j in 0..k {
         take_one(g, table, views, j);
-        j += 1;
     }
 }

@@ -2,6 +2,7 @@
 // Helpers of the search below `passes`: what they require is checked by the entries above.
 #![tactic(auto)]
 
+pub mod beats;
 pub mod free_table;
 pub mod step;
 pub mod stripes;
@@ -50,7 +51,7 @@ pub fn place_of(g: SearchGrid, c: usize) -> Place
     let w = g.width;
     let row = bitrows::row_of(w, g.scale, c);
     Place {
-        row: row,
+        row,
         column: c - row * w,
     }
 }

@@ -24,12 +24,10 @@ pub fn propagate(sets: &mut [u32], table: &[u32], from: usize, n: usize, back: b
     let none = table[WORDS - 1];
     let mut x = load(sets, from * ROWS);
     let mut t = from;
-    let mut i: usize = 0;
-    while i < n {
+    for _ in 0..n {
         t = next_beat(t, back);
         let next = advance(x, load(table, t * ROWS), none);
         save(sets, t * ROWS, next);
         x = next;
-        i += 1;
     }
 }

@@ -66,10 +66,8 @@ pub fn save(table: &mut [u32], at: usize, x: Stripes)
     requires { at + 32 ≤ length table.old }
     ensures { (words : ℕ → ℕ) → x ≡ stripes_of words → Rewritten table.old words at 32 table.new }
 {
-    let mut i: usize = 0;
-    while i < 8 {
+    for i in 0..8 {
         put_stripe(table, at + 4 * i, x[i]);
-        i += 1;
     }
 }
 

@@ -10,18 +10,20 @@ use lib.Dec.{ltb}
 use lib.ListN.{length, get_or, drop, drop_of_length-le}
 use lib.Seq.{drop-cons}
 use borrow.Author.Tests.{lt-ltb, le-ltb, eq-eqb, ne_eqb}
-use Rattle.laws.specs.Verdict.{value}
 use Rattle.reference.specs.State.{Machine}
-use Rattle.reference.specs.Ending.{RunEnding, ends_as, silent, spent, ended}
-use Rattle.reference.specs.Table.{Asked}
+use Rattle.reference.specs.Ending.{ends_as, silent, spent, ended}
 use Rattle.reference.specs.Calls.{ran}
 use Rattle.encoding.specs.Numbers.{asked_by}
 use Rattle.encoding.specs.InnerSteps.{silent_in}
 use Rattle.encoding.specs.InnerRuns.{RanIn, took_one, run_in, ending_in}
 use Rattle.encoding.proofs.RunLaws.{took_in, skipped_in}
-use Rattle.machine.specs.declared.Ran.{Ran}
-use Rattle.machine.specs.declared.Ran.TheVariants.{Silent, Spent, Ended, Refused}
-use Rattle.machine.specs.Answers.{ran_reply, taken_number}
+use Rattle.std.specs.Int.{from_bool}
+use Rattle.std.specs.Prelude.{Result}
+use Rattle.std.specs.Result.{IsErrAnd}
+use Rattle.std.proofs.lemmas.Result.{err_from_is_err_and}
+use Rattle.floor.specs.declared.Refusal.{Refusal}
+use Rattle.machine.specs.declared.runs.Run.{Run}
+use Rattle.machine.specs.Answers.{taken_number}
 use Rattle.machine.specs.Inner.{Running, Attempted, took, skipped, Tallied, ends_with}
 
 module _ (M : Machine) (m₀ xs : List ℕ) (b : ℕ) where
@@ -54,17 +56,19 @@ module _ (M : Machine) (m₀ xs : List ℕ) (b : ℕ) where
       }
 
   -- One more step of the list, tried, which counts for n.
-  pub running_more : (m m' : List ℕ) (p t n : ℕ) → p < length xs → t < b → length m' ≡ length m → Running M m₀ xs b m p t →
-      Attempted M m (asked_by (get_or xs p 0)) n m' → Running M m₀ xs b m' (p + 1) (t + n)
+  pub running_more : (m m' : List ℕ) (p t n : ℕ) {taken : Bool} → p < length xs → t < b → length m' ≡ length m → Running M m₀ xs b m p t →
+      Attempted M m (asked_by (get_or xs p 0)) taken m' → n ≡ from_bool taken → Running M m₀ xs b m' (p + 1) (t + n)
   unfolding took_one
-  running_more m m' p t n l h k s (took e one g) =
+  running_more m m' p t n l h k s (took e said g) q =
+      let one : n ≡ 1 = q ∙ ap from_bool said in
       let less : b - t ≡ suc (b - (t + 1)) = omega arith in
       let rest = map asked_by (drop (p + 1) xs) in
       let step : run_in M m (map asked_by (drop p xs)) (b - t) ≡ took_one (run_in M m' rest (b - (t + n))) =
       rw (next p l, less, took_in M m (asked_by (get_or xs p 0)) rest (b - (t + 1)) e, one, sym g) refl
       in
       goes_on m m' p t n _ k s step (refl, (omega (arith, one), refl))
-  running_more m m' p t n l h k s (skipped e none g) =
+  running_more m m' p t n l h k s (skipped e said g) q =
+      let none : n ≡ 0 = q ∙ ap from_bool said in
       let less : b - t ≡ suc (b - (t + 1)) = omega arith in
       let same : b - (t + n) ≡ suc (b - (t + 1)) = omega arith in
       let rest = map asked_by (drop (p + 1) xs) in
@@ -100,9 +104,9 @@ module _ (M : Machine) (m₀ xs : List ℕ) (b : ℕ) where
   running_end m p t l h s = stops m false p t h s (rw (drop_of_length-le xs l) refl) (le-ltb p (length xs) l)
 
 -- A step tried takes one step at most.
-pub tried_one : {M : Machine} {m m' : List ℕ} {x : Asked} {n : ℕ} → Attempted M m x n m' → n ≤ 1
-tried_one (took e one g) = omega (arith, one)
-tried_one (skipped e none g) = omega (arith, none)
+pub tried_one : (taken : Bool) {n : ℕ} → n ≡ from_bool taken → n ≤ 1
+tried_one true q = omega arith
+tried_one false q = omega arith
 
 -- How a run ends, a law a case of the code.
 module _ {said x : Bool} (t bu n p : ℕ) (same : said ≡ x) where
@@ -130,10 +134,7 @@ pub ran_is : (M : Machine) (x : RanIn) (b listed taken read : ℕ) (m : List ℕ
 unfolding ending_in ends_with
 ran_is M x b listed taken read m h = rw (h.memory, h.left, h.number) refl
 
--- The number that a run returns is the number taken.
-pub told_within : (y : Ran) (t b : ℕ) (z : RunEnding) → ran_reply y ≡ value (ran t z) → t ≤ b → taken_number y ≤ b
-unfolding ran_reply taken_number
-told_within (Silent u) t b z h l = let same : u ≡ t = cc in omega arith
-told_within (Spent u) t b z h l = let same : u ≡ t = cc in omega arith
-told_within (Ended u) t b z h l = let same : u ≡ t = cc in omega arith
-told_within (Refused x) t b z h l = omega arith
+-- A run that is refused takes no step.
+pub refused_none : (y : Result Run Refusal) (e : Refusal) (b : ℕ) → IsErrAnd y (λ d. d ≡ e) → taken_number y ≤ b
+unfolding taken_number
+refused_none y e b r = let p = err_from_is_err_and y r in rw p.1 (omega arith)

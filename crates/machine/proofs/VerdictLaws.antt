@@ -1,22 +1,30 @@
 -- What passed checks tell, and what the checks of an entry come to.
 use Prim.Native.Nat.{ℕ, zero, suc, ◌≤◌, ◌<◌}
 use native.Mathlib.Omega.{arith}
-use mathlib.Core.Bool.{Bool, true, false, not}
+use native.Mathlib.Nat.{zero-add}
+use mathlib.Core.Bool.{Bool, true, false}
 use mathlib.Core.List.{List, [], ◌∷◌, map}
 use mathlib.Core.Path.{◌≡◌, refl, sym, ◌∙◌, ap}
 use lib.ListN.{length, get_or, length-map}
-use borrow.Author.Tests.{not-true, not-false}
-use Rattle.laws.specs.Verdict.{Verdict, passed, ◌then◌, demand, demand_each}
+use mathlib.Core.Logic.{◌↔◌}
+use Rattle.std.specs.Prelude.{Result, Err, ⊤}
+use Rattle.std.specs.Result.{IsErrAnd}
+use Rattle.std.specs.List.{AllWithin, HoldsAt}
+use Rattle.std.proofs.lemmas.Result.{err_from_is_err_and}
+use Rattle.laws.specs.Verdict.{Verdict, passed, refused, ◌then◌, demand, demand_each, Outcome, refusal}
+use Rattle.laws.proofs.EachLaws.{all_passes, first_refuses}
+use Rattle.laws.proofs.Tests.{true_false_absurd}
+use Rattle.floor.specs.declared.Refusal.{Refusal}
+use Rattle.floor.specs.Answers.{number_of, verdict_of, outcome_by}
 use Rattle.laws.proofs.VerdictLaws.{then_both, demand_same}
 use Rattle.floor.specs.declared.Floor.{Floor}
 use Rattle.floor.specs.Checks.{check_of}
-use Rattle.floor.proofs.AnswersLaws.{then_next, ends_at}
 use Rattle.floor.proofs.LimitsLaws.{limited_bounds, length_passed}
 use Rattle.floor.proofs.Theorems.{theorems}
 use Rattle.reference.specs.Table.{no_step, is_named, all_named}
 use Rattle.encoding.specs.Numbers.{asked_by}
 use Rattle.encoding.specs.Calls.{machine_of, place_verdict, state_verdict}
-use Rattle.steps.specs.Inner.{Placed}
+use Rattle.steps.specs.Inner.{bare, Placed}
 use Rattle.steps.proofs.OpenLaws.{named_of}
 use Rattle.machine.specs.Inner.{named_at}
 
@@ -47,21 +55,57 @@ names_are f ws xs =
     mapped (y ∷ ys) zero l = refl
     mapped (y ∷ ys) (suc p) l = mapped ys p (omega arith)
 
--- A test in a chain of checks, last and with others behind it: its refusal, or what comes then.
-pub demand_yes : {x y : Bool} (k p : ℕ) → x ≡ y → x ≡ true → passed ≡ demand y k p
+-- The first number of a list that names no step that is there, found by the library.
+module _ (f : Floor) (xs : List ℕ) where
+  abbrev pub Names : ℕ → Type 0
+  Names x = is_named (bare f) (asked_by x) ≡ true
+
+  abbrev pub NamesNot : ℕ → Type 0
+  NamesNot x = is_named (bare f) (asked_by x) ≡ false
+
+  means : (i : ℕ) → (named_at f xs i ≡ true) ↔ (named_at f xs i ≡ true)
+  means i = (λ e. e, λ e. e)
+
+  pub all_names : AllWithin Names xs 0 (length xs) → demand_each 7 0 (named_at f xs) (length xs) ≡ passed
+  unfolding named_at
+  all_names h = all_passes 7 0 (named_at f xs) (λ i. named_at f xs i ≡ true) means (length xs) (λ i l. h i 0 (omega arith) l)
+
+  pub first_unnamed : (i : ℕ) → (i < length xs) × HoldsAt NamesNot xs i × AllWithin Names xs 0 i
+      → demand_each 7 0 (named_at f xs) (length xs) ≡ refused 7 i
+  unfolding named_at
+  first_unnamed i (l, n, h) =
+      first_refuses 7 0 (named_at f xs) (λ i. named_at f xs i ≡ true) means (length xs) i
+      (record { listed = l; fails = λ t. true_false_absurd t (n 0); before = λ j k. h j 0 (omega arith) k })
+      ∙ ap (refused 7) (zero-add i)
+
+-- A check before others: the test that it makes holds, or it refuses.
+pub then_yes : {x y : Verdict} {z z' : Bool} (k p : ℕ) → z ≡ z' → z ≡ true → x ≡ y → x ≡ (demand z' k p then y)
+unfolding demand ◌then◌
+then_yes k p e h g = rw (← e, h) g
+
+pub then_no : {y z : Bool} (k p : ℕ) (x' : Verdict) → y ≡ z → y ≡ false → refused k p ≡ (demand z k p then x')
+unfolding demand ◌then◌
+then_no k p x' e h = rw (← e, h) refl
+
+-- The last one.
+pub last_yes : {z z' : Bool} (k p : ℕ) → z ≡ z' → z ≡ true → passed ≡ demand z' k p
 unfolding demand
-demand_yes k p e h = rw (← e, h) refl
+last_yes k p e h = rw (← e, h) refl
 
-pub demand_no : {x : Verdict} {y z : Bool} (k p : ℕ) → y ≡ z → y ≡ false → x ≡ demand false k p → x ≡ demand z k p
-demand_no k p e h g = rw (← e, h) g
+pub last_no : {z z' : Bool} (k p : ℕ) → z ≡ z' → z ≡ false → refused k p ≡ demand z' k p
+unfolding demand
+last_no k p e h = rw (← e, h) refl
 
-pub then_yes : {x y : Verdict} {z z' : Bool} (k p : ℕ) → z ≡ z' → not z ≡ false → x ≡ y → x ≡ (demand z' k p then y)
-unfolding demand ◌then◌
-then_yes {z} k p e h g = rw (← e, not-false z h) g
+-- A refusal that a `?` hands on is the verdict of the whole.
+pub hands_on : (y : Result ⊤ Refusal) (e : Refusal) {z : Verdict} → verdict_of (Err e) ≡ z → IsErrAnd y (λ d. d ≡ e) → verdict_of y ≡ z
+hands_on y e h r = let p = err_from_is_err_and y r in rw (p.1, p.2) h
 
-pub then_no : {x : Verdict} {y z : Bool} (k p : ℕ) (x' : Verdict) → y ≡ z → not y ≡ true → x ≡ demand false k p → x ≡ (demand z k p then x')
-unfolding demand ◌then◌
-then_no {y} k p x' e h g = rw (← e, not-true y h) g
+pub refuses_on : {A B : Type 0} (means : A → B) (y : Result A Refusal) (e : Refusal) {o : Outcome B}
+    → refusal (number_of e.reason) e.place ≡ o → IsErrAnd y (λ d. d ≡ e) → outcome_by means y ≡ o
+unfolding outcome_by
+refuses_on means y e h r = let p = err_from_is_err_and y r in rw (p.1, p.2) h
 
--- What each answer of a chain of checks is found with.
-pub ruleset chain = (then_next, ends_at, demand_yes, demand_no, then_yes, then_no)
+-- The refusal that a `?` met.
+pub met_refused : (e : Refusal) {z : Verdict} → verdict_of (Err e) ≡ z → z ≡ refused (number_of e.reason) e.place
+unfolding verdict_of
+met_refused e h = sym h

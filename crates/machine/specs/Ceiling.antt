@@ -1,15 +1,14 @@
 -- The step ceiling as an entry: the most steps for n carriers, or refusal 2, field 5.
-use Rattle.std.specs.Prelude.{ℕ}
-use Rattle.laws.specs.Verdict.{Outcome, value, refusal, demand, ◌gives◌}
+use Rattle.std.specs.Prelude.{ℕ, Result}
+use Rattle.laws.specs.Verdict.{Outcome, demand, ◌gives◌}
+use Rattle.floor.specs.declared.Refusal.{Refusal}
+use Rattle.floor.specs.Answers.{outcome_by}
 use Rattle.floor.specs.Checks.{within}
 use Rattle.reference.specs.Quiescent.{ceiling}
-use Rattle.machine.specs.declared.Most.{Most}
-use Rattle.machine.specs.declared.Most.TheVariants.{Steps, Refused as MostRefused}
 
 -- What each case of the code's answer says.
-unfoldable pub figure_of : Most → Outcome ℕ
-figure_of (Steps t) = value t
-figure_of (MostRefused r) = refusal r.number r.place
+abbrev pub figure_of : Result ℕ Refusal → Outcome ℕ
+figure_of x = outcome_by (λ t. t) x
 
 -- The most steps for n carriers; n outside 1 to 8 gets refusal 2, field 5.
 unfoldable pub most_steps : ℕ → Outcome ℕ

@@ -13,10 +13,10 @@ use Rattle.encoding.specs.InnerRuns.{RanIn, asked_after_in, run_in}
 unfoldable pub named_at : Floor → List ℕ → ℕ → Bool
 named_at f xs p = is_named (bare f) (asked_by (get_or xs p 0))
 
--- What is asked for, tried: taken if it is open, passed over otherwise; n is the number taken, m' the memory after it.
-pub data Attempted (M : Machine) (m : List ℕ) (x : Asked) (n : ℕ) (m' : List ℕ) : Type 0 where
-  took : asked_open_in M m x ≡ true → n ≡ 1 → m' ≡ asked_after_in M m x → Attempted M m x n m'
-  skipped : asked_open_in M m x ≡ false → n ≡ 0 → m' ≡ m → Attempted M m x n m'
+-- What is asked for, tried: taken if it is open, passed over otherwise; m' is the memory after it.
+pub data Attempted (M : Machine) (m : List ℕ) (x : Asked) (taken : Bool) (m' : List ℕ) : Type 0 where
+  took : asked_open_in M m x ≡ true → taken ≡ true → m' ≡ asked_after_in M m x → Attempted M m x taken m'
+  skipped : asked_open_in M m x ≡ false → taken ≡ false → m' ≡ m → Attempted M m x taken m'
 
 -- A run of the steps that xs names from memory m₀ with budget b, seen after p of them were read and t taken, with memory m: what is
 -- left leads to the same memory, number taken and steps left.

@@ -1,6 +1,6 @@
 // The refusals of the entries, in document 01's order: the floor's, 9, 10, 7, then what a single step waits for: 8, 12, 13.
-ghost use Rattle.std.specs.Prelude.{◌≡◌, false, ◌≤◌, length};
-ghost use Rattle.laws.specs.Verdict.{demand, demand_each};
+ghost use Rattle.std.specs.Prelude.{◌≡◌, ◌≤◌, length};
+ghost use Rattle.laws.specs.Verdict.{demand_each};
 ghost use Rattle.floor.specs.Answers.{verdict_of};
 ghost use Rattle.reference.specs.Table.{step};
 ghost use Rattle.encoding.specs.Places.{state_size};
@@ -10,68 +10,54 @@ ghost use Rattle.steps.specs.Answers.{step_meant};
 ghost use Rattle.steps.specs.Inner.{bare};
 ghost use Rattle.machine.specs.Inner.{named_at};
 
-use floor::{Checked, Floor, Refusal};
+use floor::{Floor, Reason, Refusal};
 use steps::Step;
 
-// A refusal with place 0.
-fn refused(number: u16) -> Checked
-    ensures { verdict_of result ≡ demand false number 0 }
-{
-    Checked::Refused(Refusal {
-        number: number,
-        place: 0,
-    })
-}
-
 // The refusals of a lent place for a state.
-pub fn lent_place(f: Floor, walls: &[u16], lent: usize) -> Checked
+pub fn lent_place(f: Floor, walls: &[u16], lent: usize) -> Result<(), Refusal>
     ensures { verdict_of result ≡ place_verdict f walls.now lent }
 {
-    let checked = floor::check(f, walls);
-    let Checked::Passed = checked else {
-        return checked;
-    };
+    floor::check(f, walls)?;
     floor::check_length(state::state_size(f.carriers as usize), lent)
 }
 
 // The refusals of a lent state.
-pub fn lent_state(f: Floor, walls: &[u16], m: &[u16]) -> Checked
+pub fn lent_state(f: Floor, walls: &[u16], m: &[u16]) -> Result<(), Refusal>
     ensures { verdict_of result ≡ state_verdict f walls.now m.now }
 {
-    let placed = lent_place(f, walls, m.len());
-    let Checked::Passed = placed else {
-        return placed;
-    };
-    if state::valid(f, m) {
-        return Checked::Passed;
+    lent_place(f, walls, m.len())?;
+    if !state::valid(f, m) {
+        return Err(Refusal {
+            reason: Reason::NoState,
+            place: 0,
+        });
     }
-    refused(10)
+    Ok(())
 }
 
 // The refusals of a single step on a checked state: 7, then what it waits for.
-pub fn ready(f: Floor, m: &[u16], x: Step) -> Checked
+pub fn ready(f: Floor, m: &[u16], x: Step) -> Result<(), Refusal>
     requires { (f.carriers ≤ 8) × (state_size f.carriers ≤ length m.now) }
     ensures { verdict_of result ≡ single_verdict_in (bare f) m.now (step (step_meant x)) }
 {
     if !steps::is_there(f, x) {
-        return refused(7);
+        return Err(Refusal {
+            reason: Reason::Unknown,
+            place: 0,
+        });
     }
     steps::waits(f, m, x)
 }
 
 // 7 with the position of the first number of a list that names no step that is there.
-pub fn all_named(f: Floor, numbers: &[u16]) -> Checked
+pub fn all_named(f: Floor, numbers: &[u16]) -> Result<(), Refusal>
     ensures { verdict_of result ≡ demand_each 7 0 (named_at f numbers.now) (length numbers.now) }
 {
-    let mut p: usize = 0;
-    while p < numbers.len() {
-        if !steps::is_named(f, numbers[p]) {
-            return Checked::Refused(Refusal {
-                number: 7,
-                place: p,
-            });
-        }
-        p += 1;
+    match numbers.iter().position(|x| !steps::is_named(f, *x)) {
+        Some(place) => Err(Refusal {
+            reason: Reason::Unknown,
+            place,
+        }),
+        None => Ok(()),
     }
-    Checked::Passed
 }

@@ -1,20 +1,34 @@
 // The run: the open steps of a list in turn, as many as the budget allows.
 ghost use Rattle.std.specs.Prelude.{◌≡◌, map, ◌≤◌, length};
-ghost use Rattle.laws.specs.Verdict.{value};
-ghost use Rattle.reference.specs.Calls.{ran};
 ghost use Rattle.encoding.specs.Places.{state_size};
 ghost use Rattle.encoding.specs.Numbers.{asked_by};
 ghost use Rattle.encoding.specs.Calls.{machine_of};
 ghost use Rattle.encoding.specs.InnerSteps.{silent_in};
 ghost use Rattle.encoding.specs.InnerRuns.{run_in};
-ghost use Rattle.machine.specs.Answers.{ran_reply};
+ghost use Rattle.machine.specs.Answers.{ending_meant};
 ghost use Rattle.steps.specs.Inner.{bare, Workable};
 ghost use Rattle.machine.specs.Inner.{Attempted, Tallied, ends_with};
 
-use crate::Ran;
 use floor::Floor;
 use search::Rows;
-use steps::Asked;
+
+// How a run ended.
+#[derive(Clone, Copy)]
+pub enum Ending {
+    // No step is open.
+    Silent,
+    // The budget is used up and unread steps are left.
+    Spent,
+    // The list is read to its end.
+    Ended,
+}
+
+// A run that was made: the number of steps taken, and how it ended.
+#[derive(Clone, Copy)]
+pub struct Run {
+    pub taken: usize,
+    pub ending: Ending,
+}
 
 // How far a run has come: the steps taken, and the steps read.
 #[derive(Clone, Copy)]
@@ -23,20 +37,18 @@ pub struct Tally {
     pub read: usize,
 }
 
-// Takes the step that a number names if it is open, and passes over it otherwise; the number taken, 1 or 0.
-fn try_step(f: Floor, walls: &[u16], free: Rows, m: &mut [u16], x: u16) -> usize
+// Takes the step that a number names if it is open, and passes over it otherwise; whether it was taken.
+fn try_step(f: Floor, walls: &[u16], free: Rows, m: &mut [u16], x: u16) -> bool
     requires { Workable f walls.now free m.old }
     ensures { Attempted (machine_of f walls.now) m.old (asked_by x) result m.new }
 {
-    let asked = steps::asked_by(x);
-    let Asked::Known(s) = asked else {
-        return 0;
-    };
-    if steps::is_open(f, m, s) {
-        steps::take(f, walls, free, m, s);
-        return 1;
+    match steps::asked_by(x) {
+        Some(s) if steps::is_open(f, m, s) => {
+            steps::take(f, walls, free, m, s);
+            true
+        }
+        _ => false,
     }
-    0
 }
 
 // Reads the list from the front while steps are left and fewer are taken than the budget.
@@ -54,32 +66,31 @@ pub fn run_all(
         (length numbers.now) result.taken result.read m.new }
 {
     let mut taken: usize = 0;
-    let mut read: usize = 0;
-    while read < numbers.len() {
+    for (read, x) in numbers.iter().enumerate() {
         if taken >= budget {
             return Tally { taken, read };
         }
-        taken += try_step(f, walls, free, m, numbers[read]);
-        read += 1;
+        taken += usize::from(try_step(f, walls, free, m, *x));
     }
-    Tally { taken, read }
+    Tally {
+        taken,
+        read: numbers.len(),
+    }
 }
 
 // How a run ended: silent, if no step is open then; otherwise spent, if the budget is used up and steps are left; otherwise
 // ended.
-pub fn ending(f: Floor, m: &[u16], tally: Tally, budget: usize, listed: usize) -> Ran
+#[tactic(auto, unfolding(crate::specs::Answers::ending_meant, crate::specs::Inner::ends_with, reference::specs::Ending::ends_as))]
+pub fn how_ended(f: Floor, m: &[u16], tally: Tally, budget: usize, listed: usize) -> Ending
     requires { (f.carriers ≤ 8) × (state_size f.carriers ≤ length m.now) }
-    ensures { ran_reply result ≡ value (ran tally.taken
-        (ends_with (silent_in (bare f) m.now) tally.taken budget tally.read listed)) }
+    ensures { ending_meant result ≡
+        ends_with (silent_in (bare f) m.now) tally.taken budget tally.read listed }
 {
     if steps::is_silent(f, m) {
-        return Ran::Silent(tally.taken);
+        Ending::Silent
+    } else if tally.taken == budget && tally.read < listed {
+        Ending::Spent
+    } else {
+        Ending::Ended
     }
-    if tally.taken != budget {
-        return Ran::Ended(tally.taken);
-    }
-    if tally.read < listed {
-        return Ran::Spent(tally.taken);
-    }
-    Ran::Ended(tally.taken)
 }

@@ -1,5 +1,5 @@
 -- Laws of a map that was read, and cells computed from the definitions.
 mod WhereLaws
-mod ToldLaws
-mod WithinLaws
 mod Cases
+mod WithinLaws
+mod ToldLaws

@@ -5,7 +5,7 @@ use mathlib.Core.Path.{◌≡◌, sym, ◌∙◌, ap}
 use mathlib.Core.List.{List, ◌++◌}
 use borrow.Author.Count.{below_more}
 use lib.ListN.{length, take, drop, get_or, set, length-append}
-use lib.Seq.{length-take-le, take_at, get_or-set_same, get_or-set_other}
+use lib.Seq.{length-take-le, take-length, take_at, get_or-set_same, get_or-set_other}
 use Rattle.laws.specs.Verdict.{passed}
 use Rattle.laws.proofs.VerdictLaws.{then_both, when_passed_lem}
 use Rattle.laws.proofs.PutLaws.{put_front}
@@ -15,8 +15,9 @@ use Rattle.sheet.specs.Read.{write_verdict, write_sheet}
 use Rattle.sheet.proofs.Theorems.{theorems as sheet-theorems}
 use Rattle.reporting.specs.Put.{PutAt}
 use Rattle.map_reader.specs.declared.rows.Shape.{Shape}
-use Rattle.map_reader.specs.declared.Told.{Told}
-use Rattle.map_reader.specs.declared.Told.TheVariants.{Sheet, Refused}
+use Rattle.map_reader.specs.declared.problems.Problem.{Problem}
+use Rattle.std.specs.Prelude.{Result}
+use Rattle.std.proofs.lemmas.Result.{IfOk-weaker}
 use Rattle.map_reader.specs.Marks.{is_wall, cells_where}
 use Rattle.map_reader.specs.Told.{Filled, CarriersFrom, SheetIn, ToldIn}
 use Rattle.map_reader.specs.Inner.{RowsIn, Written, ToldOf}
@@ -45,15 +46,11 @@ sheet_told f ws old new n e w s =
       bytes = ap (take n) written ∙ take_at (sheet_of f ws) (drop (sheet_length f) old) n size;
     }
 
-pub map_told : (text marks table old walls out : List ℕ) (k : ℕ) (f : Floor) (y : Shape) (z : Told) → RowsIn text marks y →
-    (f.width ≡ y.width) × (f.height ≡ y.height) → CarriersFrom marks table y.cells f →
-    PutAt (cells_where (is_wall marks) y.cells) old 0 walls k → k ≤ length old → ToldOf f (take k walls) out z → ToldIn text out z
-unfolding ToldOf ToldIn
-map_told text marks table old walls out k f y (Sheet n) rows sizes carriers p l w =
-    let front : take k walls ≡ cells_where (is_wall marks) y.cells =
-    (put_front old walls (cells_where (is_wall marks) y.cells) k p.bytes (omega (arith, p.behind)) (omega (arith, p.behind))).1
-    in
-    record {
+pub map_told : (text marks table old walls out : List ℕ) (k : ℕ) (f : Floor) (y : Shape) (z : Result ℕ Problem) → RowsIn text marks y →
+    (f.width ≡ y.width) × (f.height ≡ y.height) → CarriersFrom marks table (length marks) f →
+    PutAt (cells_where (is_wall marks) (length marks)) old 0 walls k → k ≤ length old → ToldOf f (take k walls) out z → ToldIn text out z
+map_told text marks table old walls out k f y z rows sizes carriers p l =
+    IfOk-weaker z (λ n. Written f (take k walls) out n) (λ n. SheetIn text out n) (λ n w. record {
       floor = f;
       walls = take k walls;
       passes = w.passes;
@@ -61,17 +58,11 @@ map_told text marks table old walls out k f y (Sheet n) rows sizes carriers p l 
       bytes = w.bytes;
       map = record {
         first = rows.first;
-        cells = y.cells;
+        cells = length marks;
         marks = marks;
         table = table;
-        rows = rw (sizes.0, sizes.1) rows.rows;
-        walls = front;
+        rows = take-length _ ∙ rw (sizes.0, sizes.1) rows.rows;
+        walls = (put_front old walls (cells_where (is_wall marks) (length marks)) k p.bytes (omega (arith, p.behind)) (omega (arith, p.behind))).1;
         carriers = carriers;
       };
-    }
-map_told text marks table old walls out k f y (Refused x) rows sizes carriers p l w = tt
-
--- A sheet that is told is printed.
-pub sheet_printed : (text out : List ℕ) (n : ℕ) (x : Told) → x ≡ Sheet n → ToldIn text out x → SheetIn text out n
-unfolding ToldIn
-sheet_printed text out n x e w = rw e at w
+    })

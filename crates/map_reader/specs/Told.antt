@@ -1,13 +1,12 @@
 -- What reading a map tells: the sheet of a floor that the checks pass and that is the map's.
-use Rattle.std.specs.Prelude.{ℕ, ◌+◌, ◌*◌, ◌/◌, ◌%◌, ◌<◌, ◌≡◌, List, length, take, get_or, ◌⊎◌}
+use Rattle.std.specs.Prelude.{ℕ, ◌+◌, ◌*◌, ◌/◌, ◌%◌, ◌<◌, ◌≡◌, List, length, take, get_or, ◌⊎◌, Result, IfOk}
 use Rattle.io.specs.Counts.{IsPrefixLen}
 use Rattle.laws.specs.Memory.{part}
 use Rattle.laws.specs.Verdict.{passed}
 use Rattle.floor.specs.declared.Floor.{Floor}
 use Rattle.floor.specs.Checks.{check_of}
 use Rattle.sheet.specs.Text.{lines_of, sheet_of}
-use Rattle.map_reader.specs.declared.Told.{Told}
-use Rattle.map_reader.specs.declared.Told.TheVariants.{Sheet, Refused}
+use Rattle.map_reader.specs.declared.problems.Problem.{Problem}
 use Rattle.map_reader.specs.Marks.{is_thing, is_wall, cells_where}
 
 -- The first n numbers of a list are as φ says.
@@ -44,9 +43,8 @@ pub record SheetIn (text out : List ℕ) (n : ℕ) : Type 0 where
   pub map : MapFloor text floor walls
 
 -- A sheet that is told stands in front of the memory; of a refusal nothing is said here.
-unfoldable pub ToldIn : List ℕ → List ℕ → Told → Type 0
-ToldIn text out (Sheet n) = SheetIn text out n
-ToldIn text out (Refused p) = Unit {0}
+abbrev pub ToldIn : List ℕ → List ℕ → Result ℕ Problem → Type 0
+ToldIn text out told = IfOk told (λ n. SheetIn text out n)
 
 -- What is printed is nothing, or such a sheet.
 unfoldable pub SheetOrNothing : List ℕ → List ℕ → ℕ → Type 0

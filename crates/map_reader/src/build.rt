@@ -1,192 +1,176 @@
 // The floor of a map, from the marks of its cells and what its capital letters stand for. Things are counted as in `letters`: `1` to `8`,
 // then `a` to `h`.
-ghost use Rattle.std.specs.Prelude.{◌≡◌, ◌+◌, ◌*◌, ◌/◌, ◌%◌, ◌≤◌, ◌<◌, length, get_or};
+ghost use Rattle.std.specs.Prelude.{◌≡◌, ◌+◌, ◌*◌, ◌/◌, ◌%◌, ◌≤◌, ◌<◌, length, get_or, IfSome};
 ghost use Rattle.reporting.specs.Put.{PutAt};
 ghost use Rattle.map_reader.specs.Marks.{is_thing, is_wall, cells_where};
 ghost use Rattle.map_reader.specs.Told.{Filled};
 
+use crate::letters::LETTERS;
+use crate::problems::Problem;
 use crate::tokens;
-use crate::tokens::{Problem, Read};
 
-// Whether cell c is a thing.
-fn is_thing(marks: &[u8], table: &[u8], c: usize, thing: usize) -> bool
-    requires { (c < length marks.now) × (thing < 16) × (442 ≤ length table.now) }
-    ensures { result ≡ is_thing marks.now table.now thing c }
-{
-    let byte = marks[c];
-    if tokens::thing_of(byte) == thing {
-        return true;
-    }
-    let letter = tokens::letter_of(byte);
-    if letter == 26 {
-        return false;
-    }
-    table[17 * letter + thing] == 1
+// The cells of a map: their marks, at most 1,024, and what the capital letters stand for.
+#[derive(Clone, Copy)]
+pub struct Cells<'a> {
+    pub marks: &'a [u8],
+    pub table: &'a [u8; LETTERS],
+    ghost few: { length marks.now ≤ 1024 },
 }
 
-// How many of the first n cells are a thing.
-fn count(marks: &[u8], table: &[u8], n: usize, thing: usize) -> u16
-    requires { (n ≤ 1024) × (n ≤ length marks.now) × (thing < 16) × (442 ≤ length table.now) }
-    ensures { (result ≡ length (cells_where (is_thing marks.now table.now thing) n)) × (result ≤ 1024) }
-{
-    let mut found: u16 = 0;
-    let mut c: usize = 0;
-    while c < n {
-        if is_thing(marks, table, c, thing) {
-            found += 1;
+impl<'a> Cells<'a> {
+    // Whether cell c is a thing.
+    fn is_thing(&self, c: usize, thing: usize) -> bool
+        requires { (c < length self.now.marks.now) × (thing < 16) }
+        ensures { result ≡ is_thing self.now.marks.now self.now.table.now thing c }
+    {
+        let byte = self.marks[c];
+        if tokens::thing_of(byte) == Some(thing) {
+            return true;
         }
-        c += 1;
-    }
-    found
-}
-
-// The cell among the first n that is a thing and has k such cells before it; 0 where there is none.
-fn nth(marks: &[u8], table: &[u8], n: usize, thing: usize, k: u16) -> u16
-    requires { (n ≤ 1024) × (n ≤ length marks.now) × (thing < 16) × (442 ≤ length table.now) }
-    ensures { result ≡ get_or (cells_where (is_thing marks.now table.now thing) n) k 0 }
-{
-    let mut before: u16 = 0;
-    let mut c: usize = 0;
-    while c < n {
-        if is_thing(marks, table, c, thing) {
-            if before == k {
-                return c as u16;
-            }
-            before += 1;
+        match tokens::letter_of(byte) {
+            Some(letter) => self.table[17 * letter + thing] == 1,
+            None => false,
         }
-        c += 1;
     }
-    0
-}
 
-// The first of n cells whose capital letter has no line; n where there is none.
-pub fn lineless(marks: &[u8], table: &[u8], n: usize) -> usize
-    requires { (n ≤ length marks.now) × (442 ≤ length table.now) }
-    ensures { result ≤ n }
-{
-    let mut c: usize = 0;
-    while c < n {
-        let letter = tokens::letter_of(marks[c]);
-        if letter < 26 {
-            if table[17 * letter + 16] != 1 {
-                return c;
+    // How many cells are a thing.
+    fn count(&self, thing: usize) -> u16
+        requires { thing < 16 }
+        ensures { (result ≡ length (cells_where (is_thing self.now.marks.now self.now.table.now thing)
+            (length self.now.marks.now))) × (result ≤ 1024) }
+    {
+        let mut found: u16 = 0;
+        for c in 0..self.marks.len() {
+            if self.is_thing(c, thing) {
+                found += 1;
             }
         }
-        c += 1;
+        found
     }
-    n
-}
 
-// The number of carriers: the highest that has a start or a dock.
-pub fn carriers(marks: &[u8], table: &[u8], n: usize) -> u16
-    requires { (n ≤ 1024) × (n ≤ length marks.now) × (442 ≤ length table.now) }
-    ensures { result ≤ 8 }
-{
-    let mut highest: u16 = 0;
-    let mut i: usize = 0;
-    while i < 8 {
-        if count(marks, table, n, i) + count(marks, table, n, 8 + i) > 0 {
-            highest = i as u16 + 1;
+    // The cell that is a thing and has k such cells before it; 0 where there is none.
+    fn nth(&self, thing: usize, k: u16) -> u16
+        requires { thing < 16 }
+        ensures { result ≡ get_or (cells_where (is_thing self.now.marks.now self.now.table.now thing)
+            (length self.now.marks.now)) k 0 }
+    {
+        let mut before: u16 = 0;
+        for c in 0..self.marks.len() {
+            if self.is_thing(c, thing) {
+                if before == k {
+                    return c as u16;
+                }
+                before += 1;
+            }
         }
-        i += 1;
+        0
     }
-    highest
+
+    // The first cell whose capital letter has no line.
+    pub fn lineless(&self) -> Option<usize>
+        ensures { IfSome result (λ c. c < length self.now.marks.now) }
+    {
+        for (c, &byte) in self.marks.iter().enumerate() {
+            if let Some(letter) = tokens::letter_of(byte) {
+                if self.table[17 * letter + 16] != 1 {
+                    return Some(c);
+                }
+            }
+        }
+        None
+    }
+
+    // The number of carriers: the highest that has a start or a dock.
+    pub fn carriers(&self) -> u16
+        ensures { result ≤ 8 }
+    {
+        let mut highest: u16 = 0;
+        for i in 0..8 {
+            if self.count(i) + self.count(8 + i) > 0 {
+                highest = i as u16 + 1;
+            }
+        }
+        highest
+    }
+
+    // Whether the carrier with i above it has one start and 1 to 4 docks.
+    fn check_carrier(&self, i: usize) -> Result<(), Problem>
+        requires { i < 8 }
+    {
+        let carrier = i as u16 + 1;
+        let starts = self.count(i);
+        if starts == 0 {
+            return Err(Problem::NoStart { carrier });
+        }
+        if starts > 1 {
+            return Err(Problem::Starts { carrier, starts });
+        }
+        match self.count(8 + i) {
+            0 => Err(Problem::NoDock { carrier }),
+            1..=4 => Ok(()),
+            docks => Err(Problem::Docks { carrier, docks }),
+        }
+    }
+
+    // Whether the first of the carriers have one start and 1 to 4 docks each.
+    pub fn check_carriers(&self, highest: u16) -> Result<(), Problem>
+        requires { highest ≤ 8 }
+    {
+        for i in 0..highest as usize {
+            self.check_carrier(i)?;
+        }
+        Ok(())
+    }
+
+    // The starts of eight carriers.
+    pub fn starts(&self) -> [u16; 8]
+        ensures { Filled (λ i. get_or (cells_where (is_thing self.now.marks.now self.now.table.now i) (length self.now.marks.now)) 0 0)
+            result 8 }
+    {
+        let mut found = [0u16; 8];
+        for i in 0..8 {
+            found[i] = self.nth(i, 0);
+        }
+        found
+    }
+
+    // Their dock counts.
+    pub fn counts(&self) -> [u16; 8]
+        ensures { Filled (λ i. length (cells_where (is_thing self.now.marks.now self.now.table.now (8 + i)) (length self.now.marks.now)))
+            result 8 }
+    {
+        let mut found = [0u16; 8];
+        for i in 0..8 {
+            found[i] = self.count(8 + i);
+        }
+        found
+    }
+
+    // Their docks, four places a carrier.
+    pub fn docks(&self) -> [u16; 32]
+        ensures { Filled (λ p. get_or (cells_where (is_thing self.now.marks.now self.now.table.now (8 + p / 4)) (length self.now.marks.now))
+            (p % 4) 0) result 32 }
+    {
+        let mut found = [0u16; 32];
+        for p in 0..32 {
+            found[p] = self.nth(8 + p / 4, (p % 4) as u16);
+        }
+        found
+    }
 }
 
-// Whether the carrier with i above it has one start and 1 to 4 docks.
-fn check_carrier(marks: &[u8], table: &[u8], n: usize, i: usize) -> Read
-    requires { (n ≤ 1024) × (n ≤ length marks.now) × (i < 8) × (442 ≤ length table.now) }
-{
-    let number = i as u16 + 1;
-    let starts = count(marks, table, n, i);
-    if starts == 0 {
-        return Read::Refused(Problem::of(19, number, 0));
-    }
-    if starts > 1 {
-        return Read::Refused(Problem::of(20, number, starts));
-    }
-    let docks = count(marks, table, n, 8 + i);
-    if docks == 0 {
-        return Read::Refused(Problem::of(21, number, 0));
-    }
-    if docks > 4 {
-        return Read::Refused(Problem::of(22, number, docks));
-    }
-    Read::At(0)
-}
-
-// Whether the first of the carriers have one start and 1 to 4 docks each.
-pub fn check_carriers(marks: &[u8], table: &[u8], n: usize, highest: u16) -> Read
-    requires { (n ≤ 1024) × (n ≤ length marks.now) × (highest ≤ 8) × (442 ≤ length table.now) }
-{
-    let mut i: usize = 0;
-    while i < highest as usize {
-        let checked = check_carrier(marks, table, n, i);
-        let Read::At(_) = checked else {
-            return checked;
-        };
-        i += 1;
-    }
-    Read::At(0)
-}
-
-// The starts of eight carriers.
-pub fn starts(marks: &[u8], table: &[u8], n: usize) -> [u16; 8]
-    requires { (n ≤ 1024) × (n ≤ length marks.now) × (442 ≤ length table.now) }
-    ensures { Filled (λ i. get_or (cells_where (is_thing marks.now table.now i) n) 0 0) result 8 }
-{
-    let mut found = [0u16; 8];
-    let mut i: usize = 0;
-    while i < 8 {
-        found[i] = nth(marks, table, n, i, 0);
-        i += 1;
-    }
-    found
-}
-
-// Their dock counts.
-pub fn counts(marks: &[u8], table: &[u8], n: usize) -> [u16; 8]
-    requires { (n ≤ 1024) × (n ≤ length marks.now) × (442 ≤ length table.now) }
-    ensures { Filled (λ i. length (cells_where (is_thing marks.now table.now (8 + i)) n)) result 8 }
-{
-    let mut found = [0u16; 8];
-    let mut i: usize = 0;
-    while i < 8 {
-        found[i] = count(marks, table, n, 8 + i);
-        i += 1;
-    }
-    found
-}
-
-// Their docks, four places a carrier.
-pub fn docks(marks: &[u8], table: &[u8], n: usize) -> [u16; 32]
-    requires { (n ≤ 1024) × (n ≤ length marks.now) × (442 ≤ length table.now) }
-    ensures { Filled (λ p. get_or (cells_where (is_thing marks.now table.now (8 + p / 4)) n)
-        (p % 4) 0) result 32 }
-{
-    let mut found = [0u16; 32];
-    let mut p: usize = 0;
-    while p < 32 {
-        found[p] = nth(marks, table, n, 8 + p / 4, (p % 4) as u16);
-        p += 1;
-    }
-    found
-}
-
-// Puts the walls among the first n cells in front of a memory; their number is returned.
-pub fn put_walls(marks: &[u8], n: usize, walls: &mut [u16]) -> usize
-    requires { (n ≤ 1024) × (n ≤ length marks.now) × (n ≤ length walls.old) }
-    ensures { PutAt (cells_where (is_wall marks.now) n) walls.old 0 walls.new result
-        × (result ≤ n) }
+// Puts the walls among the cells in front of a memory; their number is returned.
+pub fn put_walls(marks: &[u8], walls: &mut [u16]) -> usize
+    requires { (length marks.now ≤ 1024) × (length marks.now ≤ length walls.old) }
+    ensures { PutAt (cells_where (is_wall marks.now) (length marks.now)) walls.old 0 walls.new result
+        × (result ≤ length marks.now) }
 {
     let mut found: usize = 0;
-    let mut c: usize = 0;
-    while c < n {
-        if marks[c] == 35 {
+    for c in 0..marks.len() {
+        if marks[c] == b'#' {
             walls[found] = c as u16;
             found += 1;
         }
-        c += 1;
     }
     found
 }

@@ -3,19 +3,22 @@
 
 mod build;
 mod letters;
+mod problems;
 mod rows;
 mod tokens;
 mod words;
 
-ghost use Rattle.std.specs.Prelude.{length, ◌+◌, ◌≤◌, ◌<◌, ◌≡◌};
+ghost use Rattle.std.specs.Prelude.{length, ◌≤◌, ◌≡◌};
 ghost use Rattle.io.specs.Counts.{IsPrefixLen};
 ghost use Rattle.map_reader.specs.Told.{CarriersFrom, ToldIn, SheetOrNothing};
 ghost use Rattle.map_reader.specs.Inner.{RowsIn, ToldOf};
 
-use floor::{Checked, Floor};
+use build::Cells;
+use floor::Floor;
 use letters::LETTERS;
-use rows::{Shape, Shaped};
-use tokens::{Problem, Read};
+use problems::Problem;
+use rows::Shape;
+use tokens::Head;
 pub use words::WORDS;
 use words::put_words;
 
@@ -24,15 +27,6 @@ pub const SHEET_LENGTH: usize = 11732;
 
 // The cells of the largest floor.
 const CELLS: usize = 1024;
-
-// What reading a map tells.
-#[derive(Clone, Copy)]
-enum Told {
-    // The length of the sheet that stands in front of the lent memory.
-    Sheet(usize),
-    // What is wrong with the map.
-    Refused(Problem),
-}
 
 // What is printed for a map.
 #[derive(Clone, Copy)]
@@ -72,141 +66,90 @@ fn no_letters() -> [u8; LETTERS]
 }
 
 // The floor of a map, with its walls counted and not yet placed.
-fn floor_of(
-    horizon: u16,
-    depth: u16,
-    shape: Shape,
-    marks: &[u8],
-    table: &[u8],
-    highest: u16,
-    walls: u16,
-) -> Floor
-    requires width_bound { (shape.width ≤ 32) × (shape.height ≤ 32) × (shape.cells ≤ 1024) }
-    requires in_bounds { (1024 ≤ length marks.now) × (442 ≤ length table.now) }
+fn floor_of(head: Head, shape: Shape, cells: &Cells, carriers: u16, walls: u16) -> Floor
+    requires { (shape.width ≤ 32) × (shape.height ≤ 32) }
     ensures sizes { (result.width ≡ shape.width) × (result.height ≡ shape.height) }
-    ensures carriers { CarriersFrom marks.now table.now shape.cells result }
+    ensures carriers { CarriersFrom cells.now.marks.now cells.now.table.now (length cells.now.marks.now) result }
 {
-    let n = shape.cells;
-    let starts = build::starts(marks, table, n);
-    let counts = build::counts(marks, table, n);
-    let docks = build::docks(marks, table, n);
     Floor {
         width: shape.width as u16,
         height: shape.height as u16,
-        horizon: horizon,
-        depth: depth,
-        carriers: highest,
-        walls: walls,
-        starts: starts,
-        counts: counts,
-        docks: docks,
+        horizon: head.horizon,
+        depth: head.depth,
+        carriers,
+        walls,
+        starts: cells.starts(),
+        counts: cells.counts(),
+        docks: cells.docks(),
     }
 }
 
-// Writes the sheet of a floor.
-fn write_sheet(f: Floor, walls: &[u16], out: &mut [u8]) -> Told
+// Writes the sheet of a floor; its length is answered.
+fn write_sheet(f: Floor, walls: &[u16], out: &mut [u8]) -> Result<usize, Problem>
     ensures { ToldOf f walls.now out.new result }
 {
-    let written = sheet::write(f, walls, out);
-    let Checked::Passed = written else {
-        return Told::Refused(Problem::on(23, 0));
-    };
-    Told::Sheet(sheet::sheet_length(f))
+    sheet::write(f, walls, out)?;
+    Ok(sheet::sheet_length(f))
 }
 
-// Writes the sheet of a map whose rows and letters were read.
+// Writes the sheet of a map whose rows and letters were read; its length is answered.
 fn write_map(
     text: &[u8],
-    horizon: u16,
-    depth: u16,
+    head: Head,
     shape: Shape,
-    marks: &[u8],
-    table: &[u8],
-    highest: u16,
+    cells: &Cells,
+    carriers: u16,
     out: &mut [u8],
-) -> Told
-    requires { RowsIn text.now marks.now shape × (442 ≤ length table.now) }
+) -> Result<usize, Problem>
+    requires { RowsIn text.now cells.now.marks.now shape }
     ensures { ToldIn text.now out.new result }
 {
-    let n = shape.cells;
     let mut walls = no_walls();
-    let k = build::put_walls(marks, n, &mut walls);
-    let f = floor_of(horizon, depth, shape, marks, table, highest, k as u16);
+    let k = build::put_walls(cells.marks, &mut walls);
+    let f = floor_of(head, shape, cells, carriers, k as u16);
     write_sheet(f, &walls[..k], out)
 }
 
-// What is wrong with a part of a map.
-fn refused(read: Read) -> Problem {
-    match read {
-        Read::Refused(x) => x,
-        Read::At(_) => Problem::on(23, 0),
-    }
-}
-
-// Reads what stands behind the rows, and writes the sheet.
+// Reads what stands behind the rows, and writes the sheet; its length is answered.
 fn read_rest(
     text: &[u8],
-    horizon: u16,
-    depth: u16,
+    head: Head,
     shape: Shape,
     marks: &[u8],
     out: &mut [u8],
-) -> Told
+) -> Result<usize, Problem>
     requires { RowsIn text.now marks.now shape }
     ensures { ToldIn text.now out.new result }
 {
-    let next = shape.next;
-    let n = shape.cells;
-    let w = shape.width;
     let mut table = no_letters();
-    let read = letters::read_letters(text, next, shape.height as u16 + 2, marks, n, &mut table);
-    let Read::At(_) = read else {
-        return Told::Refused(refused(read));
+    letters::read_letters(text, shape.next, shape.height as u16 + 2, marks, &mut table)?;
+    let cells = Cells {
+        marks,
+        table: &table,
     };
-    let c = build::lineless(marks, &table, n);
-    if c < n {
-        return Told::Refused(Problem::at(17, (c / w) as u16 + 2, (c % w) as u16 + 1, marks[c]));
+    if let Some(c) = cells.lineless() {
+        return Err(Problem::NoLine {
+            line: (c / shape.width) as u16 + 2,
+            column: (c % shape.width) as u16 + 1,
+            byte: marks[c],
+        });
     }
-    let highest = build::carriers(marks, &table, n);
-    if highest == 0 {
-        return Told::Refused(Problem::on(18, 0));
+    let carriers = cells.carriers();
+    if carriers == 0 {
+        return Err(Problem::NoCarrier);
     }
-    let checked = build::check_carriers(marks, &table, n, highest);
-    let Read::At(_) = checked else {
-        return Told::Refused(refused(checked));
-    };
-    write_map(text, horizon, depth, shape, marks, &table, highest, out)
+    cells.check_carriers(carriers)?;
+    write_map(text, head, shape, &cells, carriers, out)
 }
 
-// Whether a number of line 1 is within its limits.
-fn is_within(n: u16, high: u16) -> bool {
-    if n == 0 {
-        return false;
-    }
-    n <= high
-}
-
-// Reads a map, and writes the sheet of its floor into lent memory.
-fn read(text: &[u8], out: &mut [u8; SHEET_LENGTH]) -> Told
+// Reads a map, and writes the sheet of its floor into lent memory; its length is answered.
+fn read(text: &[u8], out: &mut [u8; SHEET_LENGTH]) -> Result<usize, Problem>
     ensures { ToldIn text.now out.new result }
 {
-    let head = tokens::read_head(text);
-    let first = head.next;
-    if first == 0 {
-        return Told::Refused(Problem::on(1, 1));
-    }
-    if !is_within(head.horizon, 63) {
-        return Told::Refused(Problem::on(2, 1));
-    }
-    if !is_within(head.depth, 4) {
-        return Told::Refused(Problem::on(3, 1));
-    }
+    let head = tokens::read_head(text)?;
     let mut marks = no_marks();
-    let shaped = rows::read_rows(text, first, &mut marks);
-    match shaped {
-        Shaped::Refused(x) => Told::Refused(x),
-        Shaped::Rows(shape) => read_rest(text, head.horizon, head.depth, shape, &marks, out),
-    }
+    let shape = rows::read_rows(text, head.next, &mut marks)?;
+    read_rest(text, head, shape, &marks[..shape.cells], out)
 }
 
 // Prints the sheet of a map into one lent memory, or what is wrong with the map in words into another.
@@ -215,10 +158,9 @@ pub fn print(text: &[u8], out: &mut [u8; SHEET_LENGTH], words: &mut [u8; WORDS])
     ensures words { IsPrefixLen result.words words.new }
     ensures tells { SheetOrNothing text.now out.new result.sheet }
 {
-    let told = read(text, out);
-    match told {
-        Told::Sheet(n) => PrintedMap { sheet: n, words: 0 },
-        Told::Refused(x) => PrintedMap {
+    match read(text, out) {
+        Ok(sheet) => PrintedMap { sheet, words: 0 },
+        Err(x) => PrintedMap {
             sheet: 0,
             words: put_words(x, words),
         },

@@ -2,7 +2,7 @@
 ghost use Rattle.std.specs.Prelude.{◌+◌, ◌≤◌, ◌<◌, length};
 ghost use Rattle.io.specs.Counts.{IsPrefixLen};
 
-use crate::tokens::Problem;
+use crate::problems::Problem;
 use reporting::put_bytes;
 
 // Room for every refusal.
@@ -15,26 +15,19 @@ fn put_number(out: &mut [u8], at: usize, n: u16) -> usize
 {
     let mut digits = [0u8; 20];
     let k = io::decimal(n as u64, &mut digits);
-    if k > 20 {
-        return at;
-    }
     put_bytes(out, at, &digits[..k])
 }
 
 // Puts a byte in quotes, or its number where it has no glyph; the column behind it is returned.
-fn put_byte(out: &mut [u8], at: usize, b: u16) -> usize
+fn put_byte(out: &mut [u8], at: usize, b: u8) -> usize
     requires { at + 25 ≤ length out.old }
     ensures { result ≤ at + 25 }
 {
-    if b < 33 {
-        let end = put_bytes(out, at, b"byte ");
-        return put_number(out, end, b);
+    if b.is_ascii_graphic() {
+        return put_bytes(out, at, &[b'\'', b, b'\'']);
     }
-    if b > 126 {
-        let end = put_bytes(out, at, b"byte ");
-        return put_number(out, end, b);
-    }
-    put_bytes(out, at, &[39, b as u8, 39])
+    let end = put_bytes(out, at, b"byte ");
+    put_number(out, end, b as u16)
 }
 
 // Puts `line ` and its number; the column behind it is returned.
@@ -46,35 +39,13 @@ fn put_place(out: &mut [u8], line: u16) -> usize
     put_number(out, at, line)
 }
 
-// Puts what is wrong with line 1, or with the map as a whole; the length is returned.
-fn put_whole(kind: u8, out: &mut [u8]) -> usize
-    requires { 160 ≤ length out.old }
-    ensures { result ≤ 150 }
-{
-    match kind {
-        1 => put_bytes(out, 0, b"line 1 is not 'horizon H depth D'"),
-        2 => put_bytes(out, 0, b"line 1: the horizon is not 1 to 63"),
-        3 => put_bytes(out, 0, b"line 1: the depth is not 1 to 4"),
-        4 => put_bytes(out, 0, b"there is no row"),
-        18 => put_bytes(out, 0, b"there is no carrier"),
-        _ => put_bytes(out, 0, b"the floor is refused"),
-    }
-}
-
-// Puts what is wrong with a line; the length is returned.
-fn put_line(kind: u8, line: u16, out: &mut [u8]) -> usize
-    requires { 160 ≤ length out.old }
+// Puts a line and the words behind it; the length is returned.
+fn put_line(line: u16, words: &[u8], out: &mut [u8]) -> usize
+    requires { (160 ≤ length out.old) × (length words.now ≤ 40) }
     ensures { result ≤ 150 }
 {
     let at = put_place(out, line);
-    match kind {
-        5 => put_bytes(out, at, b" has no newline at its end"),
-        6 => put_bytes(out, at, b" is empty"),
-        7 => put_bytes(out, at, b" has more than 32 cells"),
-        9 => put_bytes(out, at, b": there are more than 32 rows"),
-        12 => put_bytes(out, at, b", column 2: a space is missing"),
-        _ => put_bytes(out, at, b" has fewer than two marks"),
-    }
+    put_bytes(out, at, words)
 }
 
 // Puts ` cell` or ` cells`; the column behind it is returned.
@@ -101,9 +72,9 @@ fn put_width(line: u16, n: u16, w: u16, out: &mut [u8]) -> usize
     put_number(out, n5, w)
 }
 
-// Puts what is wrong with a byte at a line and a column; the length is returned.
-fn put_mark(kind: u8, line: u16, column: u16, byte: u16, out: &mut [u8]) -> usize
-    requires { 160 ≤ length out.old }
+// Puts a line, a column, the byte there and the words behind it; the length is returned.
+fn put_mark(line: u16, column: u16, byte: u8, words: &[u8], out: &mut [u8]) -> usize
+    requires { (160 ≤ length out.old) × (length words.now ≤ 40) }
     ensures { result ≤ 150 }
 {
     let n1 = put_place(out, line);
@@ -111,47 +82,39 @@ fn put_mark(kind: u8, line: u16, column: u16, byte: u16, out: &mut [u8]) -> usiz
     let n3 = put_number(out, n2, column);
     let n4 = put_bytes(out, n3, b": ");
     let n5 = put_byte(out, n4, byte);
-    match kind {
-        10 => put_bytes(out, n5, b" is no mark"),
-        11 => put_bytes(out, n5, b" is no letter"),
-        13 => put_bytes(out, n5, b" stands twice"),
-        _ => put_bytes(out, n5, b" has no line"),
-    }
+    put_bytes(out, n5, words)
 }
 
-// Puts what is wrong with the letter of a line; the length is returned.
-fn put_letter(kind: u8, line: u16, byte: u16, out: &mut [u8]) -> usize
-    requires { 160 ≤ length out.old }
+// Puts a line, its letter and the words behind it; the length is returned.
+fn put_letter(line: u16, letter: u8, words: &[u8], out: &mut [u8]) -> usize
+    requires { (160 ≤ length out.old) × (length words.now ≤ 40) }
     ensures { result ≤ 150 }
 {
     let n1 = put_place(out, line);
     let n2 = put_bytes(out, n1, b": ");
-    let n3 = put_byte(out, n2, byte);
-    if kind == 15 {
-        return put_bytes(out, n3, b" has a line already");
-    }
-    put_bytes(out, n3, b" is on no row")
+    let n3 = put_byte(out, n2, letter);
+    put_bytes(out, n3, words)
 }
 
-// Puts what is wrong with a carrier; the length is returned.
-fn put_carrier(kind: u8, carrier: u16, n: u16, out: &mut [u8]) -> usize
-    requires { 160 ≤ length out.old }
-    ensures { result ≤ 150 }
+// Puts a carrier and what it has; the column behind it is returned.
+fn put_carrier(carrier: u16, words: &[u8], out: &mut [u8]) -> usize
+    requires { (160 ≤ length out.old) × (length words.now ≤ 40) }
+    ensures { result ≤ 73 }
 {
     let n1 = put_bytes(out, 0, b"carrier ");
     let n2 = put_number(out, n1, carrier);
     let n3 = put_bytes(out, n2, b" has ");
-    if kind == 19 {
-        return put_bytes(out, n3, b"no start");
-    }
-    if kind == 21 {
-        return put_bytes(out, n3, b"no dock");
-    }
-    let n4 = put_number(out, n3, n);
-    if kind == 20 {
-        return put_bytes(out, n4, b" starts");
-    }
-    put_bytes(out, n4, b" docks")
+    put_bytes(out, n3, words)
+}
+
+// Puts a carrier and how many it has; the length is returned.
+fn put_count(carrier: u16, n: u16, words: &[u8], out: &mut [u8]) -> usize
+    requires { (160 ≤ length out.old) × (length words.now ≤ 40) }
+    ensures { result ≤ 150 }
+{
+    let n1 = put_carrier(carrier, b"", out);
+    let n2 = put_number(out, n1, n);
+    put_bytes(out, n2, words)
 }
 
 // Puts what is wrong, without a newline; the length is returned.
@@ -159,14 +122,42 @@ fn put_problem(x: Problem, out: &mut [u8]) -> usize
     requires { 160 ≤ length out.old }
     ensures { result ≤ 150 }
 {
-    let kind = x.kind;
-    match kind {
-        5 | 6 | 7 | 9 | 12 | 14 => put_line(kind, x.line, out),
-        8 => put_width(x.line, x.value, x.other, out),
-        10 | 11 | 13 | 17 => put_mark(kind, x.line, x.column, x.value, out),
-        15 | 16 => put_letter(kind, x.line, x.value, out),
-        19 | 20 | 21 | 22 => put_carrier(kind, x.line, x.value, out),
-        _ => put_whole(kind, out),
+    match x {
+        Problem::Head => put_bytes(out, 0, b"line 1 is not 'horizon H depth D'"),
+        Problem::Horizon => put_bytes(out, 0, b"line 1: the horizon is not 1 to 63"),
+        Problem::Depth => put_bytes(out, 0, b"line 1: the depth is not 1 to 4"),
+        Problem::NoRow => put_bytes(out, 0, b"there is no row"),
+        Problem::Unended { line } => put_line(line, b" has no newline at its end", out),
+        Problem::Empty { line } => put_line(line, b" is empty", out),
+        Problem::Wide { line } => put_line(line, b" has more than 32 cells", out),
+        Problem::Uneven { line, cells, width } => put_width(line, cells, width, out),
+        Problem::ManyRows => put_line(34, b": there are more than 32 rows", out),
+        Problem::NoMark { line, column, byte } => put_mark(line, column, byte, b" is no mark", out),
+        Problem::NoLetter { line, byte } => put_mark(line, 1, byte, b" is no letter", out),
+        Problem::NoSpace { line } => put_line(line, b", column 2: a space is missing", out),
+        Problem::Twice { line, column, byte } => put_mark(
+            line,
+            column,
+            byte,
+            b" stands twice",
+            out,
+        ),
+        Problem::FewMarks { line } => put_line(line, b" has fewer than two marks", out),
+        Problem::SecondLine { line, byte } => put_letter(line, byte, b" has a line already", out),
+        Problem::Unused { line, byte } => put_letter(line, byte, b" is on no row", out),
+        Problem::NoLine { line, column, byte } => put_mark(
+            line,
+            column,
+            byte,
+            b" has no line",
+            out,
+        ),
+        Problem::NoCarrier => put_bytes(out, 0, b"there is no carrier"),
+        Problem::NoStart { carrier } => put_carrier(carrier, b"no start", out),
+        Problem::Starts { carrier, starts } => put_count(carrier, starts, b" starts", out),
+        Problem::NoDock { carrier } => put_carrier(carrier, b"no dock", out),
+        Problem::Docks { carrier, docks } => put_count(carrier, docks, b" docks", out),
+        Problem::Floor => put_bytes(out, 0, b"the floor is refused"),
     }
 }
 
@@ -175,6 +166,6 @@ pub fn put_words(x: Problem, out: &mut [u8; WORDS]) -> usize
     ensures { IsPrefixLen result out.new }
 {
     let n = put_problem(x, out);
-    out[n] = 10;
+    out[n] = b'\n';
     n + 1
 }

@@ -1,13 +1,15 @@
 -- The marks of a cell, by the tests that the code makes, and their lengths.
-use Prim.Native.Nat.{ℕ, ◌+◌, ◌%◌, ◌≤◌}
+use Prim.Native.Nat.{ℕ, zero, suc, ◌+◌, ◌%◌, ◌≤◌}
 use native.Mathlib.Omega.{arith}
 use native.Mathlib.Numerals.{add-one}
-use mathlib.Core.Bool.{Bool, true, false, cond}
-use mathlib.Core.Path.{◌≡◌, refl, sym}
+use mathlib.Core.Bool.{Bool, true, false, cond, ◌||◌}
+use mathlib.Core.Path.{◌≡◌, refl, sym, ap, ◌∙◌}
 use mathlib.Core.List.{List, [], ◌∷◌}
 use borrow.Author.Tests.{eq-eqb, ne_eqb}
 use lib.Dec.{eqb, ltb}
-use lib.ListN.{length, get_or, length-append}
+use lib.ListN.{length, get_or, take, length-append}
+use Rattle.std.specs.List.{list_any}
+use Rattle.std.proofs.lemmas.List.Folds.{list_any_more}
 use Rattle.floor.specs.declared.Floor.{Floor}
 use Rattle.floor.specs.Checks.{start_of, is_dock, among}
 use Rattle.printing.proofs.LinesLaws.{lines_within}
@@ -15,6 +17,13 @@ use Rattle.reporting.specs.Put.{PutAt}
 use Rattle.maps.specs.Text.{one_of}
 use Rattle.maps.specs.Map.{start_mark, dock_mark, start_marks, dock_marks, marks_of, shared_below, letter_of, map_mark}
 use Rattle.maps.proofs.LinesLaws.{nothing_put, first_byte}
+
+-- Any of the first k numbers is c where c is among them.
+pub any_among : (xs : List ℕ) (c k : ℕ) → k ≤ length xs → list_any (λ y. eqb y c) (take k xs) ≡ among xs k c
+unfolding among
+any_among xs c zero l = refl
+any_among xs c (suc k) l =
+    rw add-one at (list_any_more (λ y. eqb y c) xs k 0 (omega arith)) ∙ ap (λ (b : Bool). b || eqb (get_or xs k 0) c) (any_among xs c k (omega arith))
 
 -- A text that is there by a test, or nothing.
 pub cond_there : (x : Bool) (text old new : List ℕ) (at n : ℕ) → x ≡ true → PutAt text old at new n → PutAt (cond x text []) old at new n
@@ -54,15 +63,15 @@ module _ (xs : List ℕ) (none several : ℕ) {old new : List ℕ} {n : ℕ} (p 
   unfolding one_of
   one_none e = rw (eq-eqb (length xs) 0 (omega (arith, p.behind)))
 
-  pub one_only : (n ≡ 0 → ⊥) → n ≡ 1 → one_of xs none several ≡ get_or new 0 0
+  pub one_only : n ≡ 1 → one_of xs none several ≡ get_or new 0 0
   unfolding one_of
-  one_only z e =
-      rw (ne_eqb (length xs) 0 (λ h. z (omega (arith, p.behind))), eq-eqb (length xs) 1 (omega (arith, p.behind))) (sym (first_byte p e))
+  one_only e =
+      rw (ne_eqb (length xs) 0 (λ (h : length xs ≡ 0). omega (arith, p.behind)), eq-eqb (length xs) 1 (omega (arith, p.behind))) (sym (first_byte p e))
 
-  pub one_several : (n ≡ 0 → ⊥) → (n ≡ 1 → ⊥) → one_of xs none several ≡ several
+  pub one_several : 2 ≤ n → one_of xs none several ≡ several
   unfolding one_of
-  one_several z e =
-      rw (ne_eqb (length xs) 0 (λ h. z (omega (arith, p.behind))), ne_eqb (length xs) 1 (λ h. e (omega (arith, p.behind))))
+  one_several l =
+      rw (ne_eqb (length xs) 0 (λ (h : length xs ≡ 0). omega (arith, p.behind)), ne_eqb (length xs) 1 (λ (h : length xs ≡ 1). omega (arith, p.behind)))
 
 -- The loop that counts the cells that are more than one thing: one more that is, one more that is not, and the letter after the last.
 module _ (f : Floor) where

@@ -38,10 +38,8 @@ fn put_cells(f: Floor, walls: &[u16], out: &mut [u8]) -> usize
     ensures { PutAt (marks_text (map_mark f walls.now) 1024) out.old 0 out.new result }
 {
     let mut at: usize = 0;
-    let mut c: u16 = 0;
-    while c < 1024 {
+    for c in 0..1024 {
         at = put_bytes(out, at, &[marks::map_mark(f, walls, c)]);
-        c += 1;
     }
     at
 }
@@ -76,7 +74,7 @@ fn put_letter(f: Floor, c: u16, out: &mut [u8], at: usize) -> usize
     if !marks::is_shared(f, c) {
         return at;
     }
-    let n1 = put_bytes(out, at, &[marks::letter_of(f, c), 32]);
+    let n1 = put_bytes(out, at, &[marks::letter_of(f, c), b' ']);
     let n2 = marks::put_marks(f, c, out, n1);
     put_bytes(out, n2, b"\n")
 }
@@ -87,10 +85,8 @@ fn put_letters(f: Floor, n: u16, out: &mut [u8], at: usize) -> usize
     ensures { PutAt (lines_of (letter_line f) n) out.old at out.new result }
 {
     let mut end = at;
-    let mut c: u16 = 0;
-    while c < n {
+    for c in 0..n {
         end = put_letter(f, c, out, end);
-        c += 1;
     }
     end
 }

@@ -13,14 +13,7 @@ pub fn is_among(xs: &[u16], k: usize, c: u16) -> bool
     requires { k ≤ length xs.now }
     ensures { result ≡ among xs.now k c }
 {
-    let mut i: usize = 0;
-    while i < k {
-        if xs[i] == c {
-            return true;
-        }
-        i += 1;
-    }
-    false
+    xs[..k].contains(&c)
 }
 
 // Puts the digit of the carrier with i above it if it starts in cell c; the column behind it is returned.
@@ -29,7 +22,7 @@ fn put_start(f: Floor, i: usize, c: u16, out: &mut [u8], at: usize) -> usize
     ensures { PutAt (start_mark f c i) out.old at out.new result }
 {
     if f.starts[i] == c {
-        return put_bytes(out, at, &[49 + i as u8]);
+        return put_bytes(out, at, &[b'1' + i as u8]);
     }
     at
 }
@@ -41,10 +34,8 @@ pub fn put_starts(f: Floor, c: u16, out: &mut [u8], at: usize) -> usize
 {
     let n = f.carriers as usize;
     let mut end = at;
-    let mut i: usize = 0;
-    while i < n {
+    for i in 0..n {
         end = put_start(f, i, c, out, end);
-        i += 1;
     }
     end
 }
@@ -65,7 +56,7 @@ fn put_dock(f: Floor, i: usize, c: u16, out: &mut [u8], at: usize) -> usize
     ensures { PutAt (dock_mark f c i) out.old at out.new result }
 {
     if is_dock(f, i, c) {
-        return put_bytes(out, at, &[97 + i as u8]);
+        return put_bytes(out, at, &[b'a' + i as u8]);
     }
     at
 }
@@ -77,10 +68,8 @@ pub fn put_docks(f: Floor, c: u16, out: &mut [u8], at: usize) -> usize
 {
     let n = f.carriers as usize;
     let mut end = at;
-    let mut i: usize = 0;
-    while i < n {
+    for i in 0..n {
         end = put_dock(f, i, c, out, end);
-        i += 1;
     }
     end
 }
@@ -109,14 +98,12 @@ pub fn letter_of(f: Floor, c: u16) -> u8
     ensures { result ≡ letter_of f c }
 {
     let mut shared: u16 = 0;
-    let mut d: u16 = 0;
-    while d < c {
+    for d in 0..c {
         if is_shared(f, d) {
             shared += 1;
         }
-        d += 1;
     }
-    65 + (shared % 26) as u8
+    b'A' + (shared % 26) as u8
 }
 
 // The mark of cell c on a map.
@@ -125,15 +112,13 @@ pub fn map_mark(f: Floor, walls: &[u16], c: u16) -> u8
     ensures { result ≡ map_mark f walls.now c }
 {
     if is_among(walls, f.walls as usize, c) {
-        return 35;
+        return b'#';
     }
     let mut marks = [0u8; 16];
     let n = put_marks(f, c, &mut marks, 0);
-    if n == 0 {
-        return 46;
+    match n {
+        0 => b'.',
+        1 => marks[0],
+        _ => letter_of(f, c),
     }
-    if n == 1 {
-        return marks[0];
-    }
-    letter_of(f, c)
 }

@@ -21,10 +21,8 @@ pub fn put_grid(marks: &[u8], w: usize, h: usize, out: &mut [u8], at: usize) -> 
     ensures { PutAt (grid_of marks.now w h) out.old at out.new result }
 {
     let mut end = at;
-    let mut row: usize = 0;
-    while row < h {
+    for row in 0..h {
         end = put_row(marks, row * w, w, out, end);
-        row += 1;
     }
     end
 }

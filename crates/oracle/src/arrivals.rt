@@ -1,81 +1,45 @@
 // The least arrivals, filled into the table from the horizon down.
-ghost use Rattle.std.specs.Prelude.{◌≡◌, length};
-
 use crate::ground::{dock, size};
-use crate::offers::{best_offer, offer};
-use crate::places::wide;
-use crate::table::{after, set_value};
-use floor::Floor;
+use crate::offers::Task;
+use crate::table::{NEVER, Table, after};
 
-// A beat as a value, 255 where it is none.
+// A beat as a value, NEVER where it is none.
 fn beat(t: usize) -> u8 {
-    if t < 64 {
-        return t as u8;
-    }
-    255
+    if t < 64 { t as u8 } else { NEVER }
 }
 
-// The least arrival from cell c at beat t: a dock in which one can stay, and which is held from the next beat on, is an arrival at t; any
-// other value is that of the best neighbour. A neighbour that is held itself does not make c held.
-fn arrival_from(
-    table: &[u8],
-    f: Floor,
-    walls: &[u16],
-    views: &[u16],
-    k: usize,
-    t: usize,
-    c: usize,
-) -> u8 {
-    if dock(f, k, c) {
-        if offer(table, f, walls, views, k, t, c, c) as usize == after(t) {
+impl Task<'_> {
+    // The least arrival from cell c at beat t: a dock in which one can stay, and which is held from the next beat on, is an arrival at
+    // t; any other value is that of the best neighbour. A neighbour that is held itself does not make c held.
+    fn arrival_from(&self, table: &Table, t: usize, c: usize) -> u8 {
+        if dock(&self.floor, self.k, c) && usize::from(self.offer(table, t, c, c)) == after(t) {
             return beat(t);
         }
+        self.best_offer(table, t, c)
     }
-    best_offer(table, f, walls, views, k, t, c)
-}
 
-// The value of a cell at the horizon.
-fn last_value(f: Floor, k: usize, c: usize) -> u8 {
-    if dock(f, k, c) {
-        return beat(wide(f.horizon));
+    // The values of all cells at the horizon.
+    fn fill_last(&self, table: &mut Table) {
+        let horizon = usize::from(self.floor.horizon);
+        for c in 0..size(&self.floor) {
+            let is_dock = dock(&self.floor, self.k, c);
+            table.set(horizon, c, if is_dock { beat(horizon) } else { NEVER });
+        }
     }
-    255
-}
 
-// The values of all cells at the horizon.
-fn fill_last(table: &mut [u8], f: Floor, k: usize)
-    ensures { length table.new ≡ length table.old }
-{
-    let cells = size(f);
-    let horizon = wide(f.horizon);
-    let mut c: usize = 0;
-    while c < cells {
-        set_value(table, horizon, c, last_value(f, k, c));
-        c += 1;
+    // The values of all cells at beat t, from those of the next beat.
+    fn fill_beat(&self, table: &mut Table, t: usize) {
+        for c in 0..size(&self.floor) {
+            let x = self.arrival_from(table, t, c);
+            table.set(t, c, x);
+        }
     }
-}
 
-// The values of all cells at beat t, from those of the next beat.
-fn fill_beat(table: &mut [u8], f: Floor, walls: &[u16], views: &[u16], k: usize, t: usize)
-    ensures { length table.new ≡ length table.old }
-{
-    let cells = size(f);
-    let mut c: usize = 0;
-    while c < cells {
-        let x = arrival_from(table, f, walls, views, k, t, c);
-        set_value(table, t, c, x);
-        c += 1;
-    }
-}
-
-// The least arrivals of all beats, from the horizon down.
-pub fn fill(table: &mut [u8], f: Floor, walls: &[u16], views: &[u16], k: usize)
-    ensures { length table.new ≡ length table.old }
-{
-    fill_last(table, f, k);
-    let mut t = wide(f.horizon);
-    while 0 < t {
-        t -= 1;
-        fill_beat(table, f, walls, views, k, t);
+    // The least arrivals of all beats, from the horizon down.
+    pub fn fill(&self, table: &mut Table) {
+        self.fill_last(table);
+        for t in (0..usize::from(self.floor.horizon)).rev() {
+            self.fill_beat(table, t);
+        }
     }
 }

@@ -1,41 +1,43 @@
 // The table of least arrivals: a number a beat and cell.
-ghost use Rattle.std.specs.Prelude.{◌≡◌, ◌≤◌, length};
+ghost use Rattle.std.specs.Prelude.{◌≤◌};
+
+// No arrival. A number, and no `None`: it is above every beat, so that the least of some values is an arrival where there is one.
+pub const NEVER: u8 = 255;
 
 // The beat after t.
 pub fn after(t: usize) -> usize
     ensures { result ≤ 64 }
 {
-    if t < 64 {
-        return t + 1;
-    }
-    64
+    t.saturating_add(1).min(64)
 }
 
-// The place of a beat and a cell in the table.
-fn slot(t: usize, c: usize) -> usize {
-    if t < 64 {
-        if c < 1024 {
-            return t * 1024 + c;
+// The least arrivals, at each beat from each cell.
+#[derive(Drop)]
+pub struct Table {
+    beats: [[u8; 1024]; 64],
+}
+
+impl Table {
+    // A table of zeros.
+    pub fn new() -> Table {
+        Table {
+            beats: [[0; 1024]; 64],
         }
     }
-    65536
-}
 
-// The value of a cell at a beat, 255 where there is none.
-pub fn value(table: &[u8], t: usize, c: usize) -> u8 {
-    let i = slot(t, c);
-    if i < table.len() {
-        return table[i];
+    // The value of a cell at a beat, NEVER where there is none.
+    pub fn value(&self, t: usize, c: usize) -> u8 {
+        if t < 64 && c < 1024 {
+            self.beats[t][c]
+        } else {
+            NEVER
+        }
     }
-    255
-}
 
-// Sets the value of a cell at a beat, where there is one.
-pub fn set_value(table: &mut [u8], t: usize, c: usize, x: u8)
-    ensures { length table.new ≡ length table.old }
-{
-    let i = slot(t, c);
-    if i < table.len() {
-        table[i] = x;
+    // Sets the value of a cell at a beat, where there is one.
+    pub fn set(&mut self, t: usize, c: usize, x: u8) {
+        if t < 64 && c < 1024 {
+            self.beats[t][c] = x;
+        }
     }
 }

@@ -1,49 +1,27 @@
 // The route along the table: at each beat to the first cell that offers the least arrival, until it has arrived.
-ghost use Rattle.std.specs.Prelude.{◌≡◌, length};
-
-use crate::offers::{best_offer, first_offer};
-use crate::places::{narrow, wide};
-use crate::table::value;
-use floor::Floor;
+use crate::offers::Task;
+use crate::places::narrow;
+use crate::table::Table;
 use route::Route;
 
-// Writes cell c at beat t.
-fn set_cell(r: &mut [u16], t: usize, c: usize)
-    ensures { length r.new ≡ length r.old }
-{
-    if t < r.len() {
-        r[t] = narrow(c);
+impl Task<'_> {
+    // Where the route goes from c at beat t. Where it has arrived it stays, though a smaller dock next to it may offer as much.
+    fn next_cell(&self, table: &Table, t: usize, c: usize) -> usize {
+        if usize::from(table.value(t, c)) == t {
+            return c;
+        }
+        self.best_neighbour(table, t, c)
     }
-}
 
-// Where the route goes from c at beat t. Where it has arrived it stays, though a smaller dock next to it may offer as much.
-fn next_cell(
-    table: &[u8],
-    f: Floor,
-    walls: &[u16],
-    views: &[u16],
-    k: usize,
-    t: usize,
-    c: usize,
-) -> usize {
-    if value(table, t, c) as usize == t {
-        return c;
+    // The route from the start.
+    pub fn walk(&self, table: &Table, start: usize) -> Route {
+        let mut r = [0u16; 64];
+        r[0] = narrow(start);
+        let mut c = start;
+        for t in 0..usize::from(self.floor.horizon).min(63) {
+            c = self.next_cell(table, t, c);
+            r[t + 1] = narrow(c);
+        }
+        r
     }
-    let x = best_offer(table, f, walls, views, k, t, c);
-    first_offer(table, f, walls, views, k, t, c, x)
-}
-
-// The route from the start.
-pub fn walk(table: &[u8], f: Floor, walls: &[u16], views: &[u16], k: usize, start: usize) -> Route {
-    let horizon = wide(f.horizon);
-    let mut r = [0u16; 64];
-    set_cell(&mut r, 0, start);
-    let mut c = start;
-    let mut t: usize = 0;
-    while t < horizon {
-        c = next_cell(table, f, walls, views, k, t, c);
-        t += 1;
-        set_cell(&mut r, t, c);
-    }
-    r
 }

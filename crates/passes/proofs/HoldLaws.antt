@@ -4,7 +4,7 @@ use native.Mathlib.Omega.{arith}
 use native.Mathlib.Nat.{eq-or-lt_of_le}
 use mathlib.Core.Bool.{Bool, true, false}
 use mathlib.Core.Logic.{⊎_elim}
-use mathlib.Core.Path.{◌≡◌, refl}
+use mathlib.Core.Path.{◌≡◌, refl, sym}
 use Rattle.laws.proofs.Tests.{lt_or_le, true_false_absurd}
 use Rattle.passes.specs.Docks.{held_from}
 
@@ -31,23 +31,10 @@ module _ (φ : ℕ → Bool) where
   pub held_upto : (n : ℕ) → held_from φ n ≤ n
   held_upto n = held_least n n (λ t l u. absurd (omega arith))
 
-  -- The turns of the loop that looks for it, downwards.
-  pub held_below : (n : ℕ) → 0 < n → φ (n - 1) ≡ true → held_from φ n ≡ held_from φ (n - 1)
-  unfolding held_from
-  held_below zero l h = absurd (omega arith)
-  held_below (suc n) l h =
-      let z : suc n - 1 ≡ n = omega arith in
-      let e : φ n ≡ true = rw z at h in
-      rw (z, e, held_from)
-
-  pub held_here : (n : ℕ) → 0 < n → φ (n - 1) ≡ false → held_from φ n ≡ n
-  unfolding held_from
-  held_here zero l h = absurd (omega arith)
-  held_here (suc n) l h =
-      let z : suc n - 1 ≡ n = omega arith in
-      let e : φ n ≡ false = rw z at h in
-      rw (e, held_from)
-
-  pub held_none : held_from φ 0 ≡ 0
-  unfolding held_from
-  held_none = refl
+  -- A number from which all pass, and before which one fails, is that one.
+  pub held_is : (a n : ℕ) → a ≤ n → ((t : ℕ) → a ≤ t → t < n → φ t ≡ true) → (0 < a → φ (a - 1) ≡ false) → a ≡ held_from φ n
+  held_is a n upto holds before =
+      ⊎_elim (λ (s : held_from φ n ≡ a). sym s)
+      (λ (s : held_from φ n < a).
+      true_false_absurd (held_says (a - 1) n (omega arith) (a - 1) (omega arith) (omega arith)) (before (omega arith)))
+      (eq-or-lt_of_le (held_least a n holds))

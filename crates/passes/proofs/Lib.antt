@@ -5,3 +5,4 @@ pub mod EndsLaws
 pub mod PassLaws
 pub mod NearCells
 pub mod NextLaws
+mod FilledLaws

@@ -5,6 +5,7 @@ ghost use Rattle.layers.specs.Step.{ChangedAt};
 ghost use Rattle.passes.specs.Docks.{DocksIn, hold_of, held_docks, arrivable, EndsAt, OneEnd};
 
 use layers::SearchGrid;
+use layers::beats::held_from;
 use layers::table::{member, put_more, put_none};
 
 // As many cells as a carrier may have docks.
@@ -23,14 +24,7 @@ fn hold_from(g: SearchGrid, table: &[u32], dock: usize) -> usize
     requires { Grid g × (length table.now ≡ 2049) × (g.horizon ≤ 63) × (dock < g.cells) }
     ensures { result ≡ hold_of g table.now dock }
 {
-    let mut n = g.horizon + 1;
-    while 0 < n {
-        if !member(g, table, n - 1, dock) {
-            return n;
-        }
-        n -= 1;
-    }
-    0
+    held_from(g.horizon + 1, |t| member(g, table, t, dock))
 }
 
 // The docks with the beats from which they can be held in a free table.
@@ -39,15 +33,13 @@ pub fn hold_docks(g: SearchGrid, table: &[u32], count: usize, cells: Cells) -> D
     ensures { result ≡ held_docks g table.now count cells }
 {
     let mut holds = [0usize; 4];
-    let mut d: usize = 0;
-    while d < count {
+    for d in 0..count {
         holds[d] = hold_from(g, table, cells[d] as usize);
-        d += 1;
     }
     Docks {
-        count: count,
-        cells: cells,
-        holds: holds,
+        count,
+        cells,
+        holds,
     }
 }
 
@@ -56,10 +48,7 @@ fn arrives_at(g: SearchGrid, sets: &[u32], t: usize, hold: usize, dock: usize) -
     requires { Grid g × (length sets.now ≡ 2049) × (t < 64) × (dock < g.cells) }
     ensures { result ≡ (leb hold t && in_set g sets.now t dock) }
 {
-    if t < hold {
-        return false;
-    }
-    member(g, sets, t, dock)
+    hold <= t && member(g, sets, t, dock)
 }
 
 // Whether some dock that can be held from beat t on is in the set of beat t.
@@ -68,12 +57,10 @@ pub fn arrives(g: SearchGrid, sets: &[u32], ds: Docks, t: usize) -> bool
     ensures { result ≡ arrivable g sets.now ds t }
 {
     let n = ds.count;
-    let mut d: usize = 0;
-    while d < n {
+    for d in 0..n {
         if arrives_at(g, sets, t, ds.holds[d], ds.cells[d] as usize) {
             return true;
         }
-        d += 1;
     }
     false
 }
@@ -84,10 +71,9 @@ fn put_dock(g: SearchGrid, sets: &mut [u32], ds: Docks, a: usize, d: usize)
     ensures only { ChangedAt g sets.old a sets.new }
     ensures more { OneEnd g sets.old ds a d sets.new }
 {
-    if a < ds.holds[d] {
-        return;
+    if ds.holds[d] <= a {
+        put_more(g, sets, a, ds.cells[d] as usize);
     }
-    put_more(g, sets, a, ds.cells[d] as usize);
 }
 
 // The set of beat a becomes the docks that can be held from then on.
@@ -98,9 +84,7 @@ pub fn put_docks(g: SearchGrid, sets: &mut [u32], ds: Docks, a: usize)
 {
     put_none(g, sets, a);
     let n = ds.count;
-    let mut d: usize = 0;
-    while d < n {
+    for d in 0..n {
         put_dock(g, sets, ds, a, d);
-        d += 1;
     }
 }

@@ -5,19 +5,13 @@ ghost use Rattle.passes.specs.Docks.{DocksIn, held_from, Holdable, arrivable};
 ghost use Rattle.passes.specs.Passes.{manhattan_of, ForwardReachableTo, Earliest};
 
 use crate::docks::{Docks, arrives};
+use layers::beats::held_from;
 use layers::step::propagate;
 use layers::table::put_alone;
 use layers::{SearchGrid, place_of};
 
 // After the beats to the nearest dock the sets are made four beats at a time.
 const STEPS: usize = 4;
-
-// How far two numbers are apart.
-fn abs_diff(a: usize, b: usize) -> usize
-    ensures { result ≡ (a - b) + (b - a) }
-{
-    if a < b { b - a } else { a - b }
-}
 
 // The beats from one cell to another where nothing is in the way.
 fn manhattan(g: SearchGrid, c: usize, d: usize) -> usize
@@ -26,7 +20,7 @@ fn manhattan(g: SearchGrid, c: usize, d: usize) -> usize
 {
     let here = place_of(g, c);
     let there = place_of(g, d);
-    abs_diff(here.row, there.row) + abs_diff(here.column, there.column)
+    here.row.abs_diff(there.row) + here.column.abs_diff(there.column)
 }
 
 // The beats to the nearest dock, at most to the horizon. What the pass finds does not depend on it.
@@ -36,13 +30,8 @@ fn nearest(g: SearchGrid, start: usize, ds: Docks) -> usize
 {
     let n = ds.count;
     let mut near = g.horizon;
-    let mut d: usize = 0;
-    while d < n {
-        let beats = manhattan(g, start, ds.cells[d] as usize);
-        if beats < near {
-            near = beats;
-        }
-        d += 1;
+    for d in 0..n {
+        near = near.min(manhattan(g, start, ds.cells[d] as usize));
     }
     near
 }
@@ -55,10 +44,7 @@ fn beats_after(t: usize, near: usize, horizon: usize) -> usize
     if t < near {
         return near - t;
     }
-    if horizon < t + STEPS {
-        return horizon - t;
-    }
-    STEPS
+    STEPS.min(horizon - t)
 }
 
 // The least beat from which on every beat before n is an arrival; n where the one before it is none.
@@ -66,14 +52,7 @@ fn first_arrival(g: SearchGrid, sets: &[u32], ds: Docks, n: usize) -> usize
     requires { Grid g × (length sets.now ≡ 2049) × (n ≤ 64) × DocksIn g ds.count ds.cells }
     ensures { result ≡ held_from (arrivable g sets.now ds) n }
 {
-    let mut t = n;
-    while 0 < t {
-        if !arrives(g, sets, ds, t - 1) {
-            return t;
-        }
-        t -= 1;
-    }
-    0
+    held_from(n, |t| arrives(g, sets, ds, t))
 }
 
 // The least arrival, or one beat past the horizon where there is none. The sets become what the start reaches in the free table. Where a

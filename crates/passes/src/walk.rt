@@ -13,10 +13,7 @@ fn has_above(sets: &[u32], t: usize, row: usize, column: usize) -> bool
     requires { (length sets.now ≡ 2049) × (t < 64) × (row < 32) × (column < 32) }
     ensures { result ≡ (ltb 0 row && has sets.now (word_of t (row - 1)) column) }
 {
-    if 0 < row {
-        return has_at(sets, t, row - 1, column);
-    }
-    false
+    0 < row && has_at(sets, t, row - 1, column)
 }
 
 // Whether the digit below it is 1.
@@ -24,10 +21,7 @@ fn has_below(sets: &[u32], t: usize, row: usize, column: usize) -> bool
     requires { (length sets.now ≡ 2049) × (t < 64) × (row < 32) × (column < 32) }
     ensures { result ≡ (ltb (row + 1) 32 && has sets.now (word_of t (row + 1)) column) }
 {
-    if row + 1 < ROWS {
-        return has_at(sets, t, row + 1, column);
-    }
-    false
+    row + 1 < ROWS && has_at(sets, t, row + 1, column)
 }
 
 // Whether the digit left of it is 1.
@@ -35,10 +29,7 @@ fn has_left(sets: &[u32], t: usize, row: usize, column: usize) -> bool
     requires { (length sets.now ≡ 2049) × (t < 64) × (row < 32) × (column < 32) }
     ensures { result ≡ (ltb 0 column && has sets.now (word_of t row) (column - 1)) }
 {
-    if 0 < column {
-        return has_at(sets, t, row, column - 1);
-    }
-    false
+    0 < column && has_at(sets, t, row, column - 1)
 }
 
 // Whether the digit right of it is 1, in a grid of width w.
@@ -46,10 +37,7 @@ fn has_right(sets: &[u32], t: usize, row: usize, column: usize, w: usize) -> boo
     requires { (length sets.now ≡ 2049) × (t < 64) × (row < 32) × (column < 32) × (w ≤ 32) }
     ensures { result ≡ (ltb (column + 1) w && has sets.now (word_of t row) (column + 1)) }
 {
-    if column + 1 < w {
-        return has_at(sets, t, row, column + 1);
-    }
-    false
+    column + 1 < w && has_at(sets, t, row, column + 1)
 }
 
 // The place of the smallest near cell in the set of beat t; the place itself where there is none.
@@ -62,12 +50,12 @@ fn next(g: SearchGrid, sets: &[u32], t: usize, p: Place) -> Place
     if has_above(sets, t, row, column) {
         return Place {
             row: row - 1,
-            column: column,
+            column,
         };
     }
     if has_left(sets, t, row, column) {
         return Place {
-            row: row,
+            row,
             column: column - 1,
         };
     }
@@ -76,14 +64,14 @@ fn next(g: SearchGrid, sets: &[u32], t: usize, p: Place) -> Place
     }
     if has_right(sets, t, row, column, g.width) {
         return Place {
-            row: row,
+            row,
             column: column + 1,
         };
     }
     if has_below(sets, t, row, column) {
         return Place {
             row: row + 1,
-            column: column,
+            column,
         };
     }
     p
@@ -98,11 +86,9 @@ fn along(g: SearchGrid, sets: &[u32], start: usize, a: usize) -> Route
     let mut r = [0u16; 64];
     r[0] = start as u16;
     let mut p = place_of(g, start);
-    let mut t: usize = 0;
-    while t < a {
-        t += 1;
-        p = next(g, sets, t, p);
-        r[t] = (p.row * w + p.column) as u16;
+    for t in 0..a {
+        p = next(g, sets, t + 1, p);
+        r[t + 1] = (p.row * w + p.column) as u16;
     }
     r
 }
@@ -114,10 +100,6 @@ pub fn walk(g: SearchGrid, sets: &[u32], start: usize, a: usize) -> Route
 {
     let mut r = along(g, sets, start, a);
     let last = r[a];
-    let mut t = a;
-    while t < g.horizon {
-        t += 1;
-        r[t] = last;
-    }
+    r[a..=g.horizon].fill(last);
     r
 }

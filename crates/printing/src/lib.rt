@@ -58,20 +58,13 @@ pub fn print(f: Floor, walls: &[u16], answers: &mut [u16], out: &mut [u8]) -> Re
     Ok(put_plan(f, walls, answers, out))
 }
 
-// Room for the answers of the most carriers.
-fn no_answers() -> [u16; 520]
-    ensures { 520 ≡ length result }
-{
-    [0; 520]
-}
-
 // Plans an accepted floor and puts its routes; their length is returned.
 pub fn put_routes(f: Floor, walls: &[u16], out: &mut [u8]) -> usize
     requires walls_value { check_of f walls.now ≡ passed }
     requires f_in_bounds { text_length f ≤ length out.old }
     ensures { TextPut (print_of f walls.now) out.old out.new result }
 {
-    let mut answers = no_answers();
+    let mut answers = records::blank();
     put_plan(f, walls, &mut answers, out)
 }
 

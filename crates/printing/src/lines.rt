@@ -15,10 +15,8 @@ fn put_cells(out: &mut [u8], at: usize, cells: Route, n: usize)
     requires n_in_bounds { at + 5 * n ≤ length out.old }
     ensures { out.new ≡ put out.old at (fields_of (take n cells)) }
 {
-    let mut t: usize = 0;
-    while t < n {
+    for t in 0..n {
         fields::put_field(out, at + 5 * t, cells[t]);
-        t += 1;
     }
 }
 
@@ -39,11 +37,7 @@ fn put_word(out: &mut [u8], at: usize)
     requires { at + 5 ≤ length out.old }
     ensures { out.new ≡ put out.old at none_word }
 {
-    out[at] = b' ';
-    out[at + 1] = b'n';
-    out[at + 2] = b'o';
-    out[at + 3] = b'n';
-    out[at + 4] = b'e';
+    out[at..at + 5].copy_from_slice(b" none");
 }
 
 // The line of a carrier that has none.
@@ -82,10 +76,8 @@ fn put_answers(f: Floor, answers: &[u16], out: &mut [u8]) -> usize
 {
     let n = f.carriers as usize;
     let mut at: usize = 11;
-    let mut i: usize = 0;
-    while i < n {
+    for i in 0..n {
         at = put_answer(f, i, answers, out, at);
-        i += 1;
     }
     at
 }

@@ -6,4 +6,3 @@ pub mod CellLaws
 pub mod PartLaws
 pub mod LoadLaws
 pub mod SeenLaws
-mod FrontLaws

@@ -1,14 +1,14 @@
 -- A loop that loads 64 cells from a place of a memory, and a record copied from place to place.
-use Prim.Native.Nat.{ℕ, suc, ◌+◌, ◌≤◌, ◌<◌}
+use Prim.Native.Nat.{ℕ, suc, ◌+◌, ◌-◌, ◌≤◌, ◌<◌}
 use native.Mathlib.Omega.{arith}
-use native.Mathlib.Nat.{eq-or-lt_of_le}
+use native.Mathlib.Nat.{zero-add}
 use native.Mathlib.Numerals.{add-one}
-use mathlib.Core.Logic.{⊎_elim}
-use mathlib.Core.Path.{◌≡◌, refl, sym, ◌∙◌, ap}
-use mathlib.Core.List.{List, ◌∷◌}
-use lib.ListN.{length, get_or, set, length-set}
-use lib.Seq.{get_or-set_same, get_or-set_other, ext_get_or, drop-cons}
-use borrow.Author.Rules.{rules}
+use mathlib.Core.Path.{◌≡◌, refl, sym, ◌∙◌}
+use mathlib.Core.List.{List, ◌∷◌, ◌++◌, append_assoc}
+use lib.ListN.{length, get_or, drop}
+use lib.Seq.{ext_get_or, drop-cons, drop-drop}
+use borrow.Rule.Slice.PartMut.{put_mid}
+use Rattle.std.specs.List.{copy_within}
 use Rattle.laws.specs.Memory.{put, part}
 use Rattle.laws.proofs.PartLaws.{part_byte, part_length}
 use Rattle.records.specs.Records.{moved}
@@ -22,32 +22,27 @@ module _ (m : List ℕ) (at : ℕ) where
   pub copied_start : (cells : List ℕ) → length cells ≡ 64 → CellsCopied m at cells 0
   copied_start cells e = record { long = e; copied = λ p l. absurd (omega arith) }
 
-  pub copied_more : (cells : List ℕ) (t : ℕ) → t < 64 → CellsCopied m at cells t
-      → CellsCopied m at (set cells t (get_or m (at + t) 0)) (t + 1)
-  copied_more cells t l h =
-      record {
-        long = length-set cells t (get_or m (at + t) 0) ∙ h.long;
-        copied = λ p k.
-            ⊎_elim
-            (λ (e : p ≡ t). rw e (get_or-set_same cells t (get_or m (at + t) 0) 0 (omega (arith, h.long))))
-            (λ (b : p < t). get_or-set_other cells t p (get_or m (at + t) 0) 0 (λ e. omega arith) ∙ h.copied p b)
-            (eq-or-lt_of_le (omega arith));
-      }
-
   pub copied_end : (cells : List ℕ) (t : ℕ) → 64 ≤ t → at + 64 ≤ length m → CellsCopied m at cells t → cells ≡ part m at 64
   copied_end cells t l s h =
       ext_get_or 0 cells (part m at 64) (h.long ∙ sym (part_length m at 64 s))
       (λ i k. h.copied i (omega (arith, h.long)) ∙ sym (part_byte m at 64 i (omega (arith, h.long))))
-
--- What each answer of this loop is found with.
-pub ruleset copy_turn = (copied_start, copied_more, copied_end, rules)
 
 -- A part is its first number and the part behind it.
 pub part_first : (m : List ℕ) (at k : ℕ) → at < length m → get_or m at 0 ∷ part m (at + 1) k ≡ part m at (suc k)
 unfolding part
 part_first m at k l = rw (add-one, drop-cons m at 0 l) refl
 
-pub moved_is : (m m' cells : List ℕ) (from to : ℕ) → from < length m → cells ≡ part m (from + 1) 64 →
-    m' ≡ put m to (get_or m from 0 ∷ cells) → m' ≡ moved m from to
-unfolding moved
-moved_is m m' cells from to l e g = g ∙ ap (put m to) (rw e (part_first m from 64 l))
+-- A part that is written is a block stored, and a part copied within a memory is that part moved.
+pub stored_is : (m xs ys : List ℕ) (at k : ℕ) → k ≡ length xs → ys ≡ xs → put_mid at k m ys ≡ put m at xs
+unfolding put
+stored_is m xs ys at k e f = rw (e, f, drop-drop (length xs) at m) refl
+
+pub stored_first : (m xs ys : List ℕ) → ys ≡ xs → ys ++ drop (length xs) m ≡ put m 0 xs
+unfolding put
+stored_first m xs ys f = rw (f, zero-add) refl
+
+pub moved_is : (m m' : List ℕ) (from to : ℕ) → from + 65 ≤ length m → m' ≡ copy_within m from (from + 65) to → m' ≡ moved m from to
+unfolding moved put part
+moved_is m m' from to l e =
+    let n : from + 65 - from ≡ 65 = omega arith in
+    rw (part_length m from 65 l) (rw (n, append_assoc) at e)

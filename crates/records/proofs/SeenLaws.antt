@@ -6,10 +6,11 @@ use native.Mathlib.Numerals.{add-one}
 use mathlib.Core.Bool.{Bool, true, false, cond}
 use mathlib.Core.List.{List, [], ◌∷◌, ◌++◌}
 use mathlib.Core.Path.{subst, ◌≡◌, refl, sym, ◌∙◌, ap, ap₂}
+use Rattle.std.proofs.lemmas.List.{drop-replicate}
 use borrow.Author.Count.{below_more}
 use borrow.Author.Tests.{eqb-true, eq-eqb, ne_eqb}
 use lib.Dec.{eqb}
-use lib.ListN.{length, get_or, take, drop, set, replicate, length-append, length-replicate, get_or-append}
+use lib.ListN.{length, get_or, take, drop, replicate, length-append, length-replicate, get_or-append}
 use lib.Seq.{get_or_at, get_or-take, length-take-le, ext_get_or}
 use Rattle.laws.specs.Memory.{put, part}
 use Rattle.laws.proofs.PartLaws.{part_byte, part_length}
@@ -22,23 +23,14 @@ use Rattle.records.specs.Seen.{parked, seen_as, seen_from, seen, seen_record}
 use Rattle.records.proofs.LoadLaws.{part_first}
 use Rattle.records.proofs.RecordLaws.{cells_behind}
 
--- The loop that parks a route: the cells before beat t are the cell's, the others 0.
-set_behind : (k x t : ℕ) (xs : List ℕ) → set (replicate t k ++ (x ∷ xs)) t k ≡ replicate (suc t) k ++ xs
-set_behind k x zero xs = refl
-set_behind k x (suc t) xs = ap (λ (xs : List ℕ). k ∷ xs) (set_behind k x t xs)
-
-pub park_more : (k t : ℕ) (cells : List ℕ) → t < 64 → cells ≡ replicate t k ++ replicate (64 - t) 0 →
-    set cells t k ≡ replicate (t + 1) k ++ replicate (64 - (t + 1)) 0
-park_more k t cells l e =
-    let one : 64 - t ≡ suc (64 - (t + 1)) = omega arith in
-    rw (e, one, add-one t) (set_behind k 0 t (replicate (64 - suc t) 0))
-
-pub park_end : (k t last : ℕ) (cells : List ℕ) → t ≤ last + 1 → last < t → cells ≡ replicate t k ++ replicate (64 - t) 0 →
-    cells ≡ replicate (last + 1) k ++ replicate (63 - last) 0
-park_end k t last cells l h e =
-    let here : t ≡ last + 1 = omega arith in
-    let rest : 64 - t ≡ 63 - last = omega arith in
-    e ∙ ap₂ (λ (a b : ℕ). replicate a k ++ replicate b 0) here rest
+-- The cells of a parked route: those through the last beat filled, the others 0.
+pub park_end : (k last : ℕ) (xs : List ℕ) → last ≤ 63 → xs ≡ replicate (length {A = ℕ} (take (last + 1) (replicate 64 0))) k
+    → xs ++ drop (last + 1) (replicate 64 0) ≡ replicate (last + 1) k ++ replicate (63 - last) 0
+park_end k last xs l e =
+    let rest : 64 - (last + 1) ≡ 63 - last = omega arith in
+    let front : length {A = ℕ} (take (last + 1) (replicate 64 0)) ≡ last + 1 =
+    length-take-le (last + 1) (replicate 64 0) (omega arith) in
+    rw (e, front, drop-replicate {X = ℕ} (last + 1) 64 0, rest) refl
 
 pub parked_length : (f : Floor) (j : ℕ) → f.horizon ≤ 63 → length (parked f j) ≡ 64
 unfolding parked

@@ -24,11 +24,7 @@ pub fn load(m: &[u16], at: usize) -> Route
     ensures { result ≡ part m.now at 64 }
 {
     let mut cells: Route = [0u16; CELLS];
-    let mut t: usize = 0;
-    while t < CELLS {
-        cells[t] = m[at + t];
-        t += 1;
-    }
+    cells.copy_from_slice(&m[at..at + CELLS]);
     cells
 }
 
@@ -37,11 +33,7 @@ fn store_cells(m: &mut [u16], at: usize, cells: Route)
     requires { at + 64 ≤ length m.old }
     ensures { (m.new ≡ put m.old at cells) × (length cells ≡ 64) }
 {
-    let mut t: usize = 0;
-    while t < CELLS {
-        m[at + t] = cells[t];
-        t += 1;
-    }
+    m[at..at + CELLS].copy_from_slice(&cells);
 }
 
 // Stores a record.
@@ -66,9 +58,7 @@ pub fn copy(m: &mut [u16], from: usize, to: usize)
     requires { (from + 65 ≤ length m.old) × (to + 65 ≤ length m.old) }
     ensures { m.new ≡ moved m.old from to }
 {
-    let tag = m[from];
-    let cells = load(m, from + 1);
-    store(m, to, tag, cells);
+    m.copy_within(from..from + SIZE, to);
 }
 
 // The cell of the route in record j at beat t, a number that is no cell where there is no route.
@@ -87,9 +77,5 @@ pub fn write_front(m: &mut [u16], numbers: &[u16])
     requires { length numbers.now ≤ length m.old }
     ensures { m.new ≡ put m.old 0 numbers.now }
 {
-    let mut t: usize = 0;
-    while t < numbers.len() {
-        m[t] = numbers[t];
-        t += 1;
-    }
+    m[..numbers.len()].copy_from_slice(numbers);
 }

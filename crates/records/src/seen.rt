@@ -24,11 +24,7 @@ fn parked(cell: u16, last: usize) -> Route
     ensures { result ≡ replicate (last + 1) cell ++ replicate (63 - last) 0 }
 {
     let mut cells: Route = [0u16; CELLS];
-    let mut t: usize = 0;
-    while t <= last {
-        cells[t] = cell;
-        t += 1;
-    }
+    cells[..=last].fill(cell);
     cells
 }
 
@@ -52,10 +48,8 @@ pub fn seen_records(f: Floor, m: &[u16], k: usize) -> [u16; TEAM]
     ensures { (length result ≡ 520) × (records result k ≡ seen f (records m.now k)) }
 {
     let mut shown = blank();
-    let mut j: usize = 0;
-    while j < k {
+    for j in 0..k {
         store_seen(f, m, j, &mut shown);
-        j += 1;
     }
     shown
 }

@@ -4,12 +4,12 @@ use native.Mathlib.Omega.{arith}
 use mathlib.Core.Path.{◌≡◌, refl, ◌∙◌}
 use mathlib.Core.List.{List}
 use lib.ListN.{length, take}
+use Rattle.std.specs.Prelude.{Result, Ok, IfOk}
 use Rattle.io.specs.Counts.{IsPrefixLen}
 use Rattle.laws.specs.Verdict.{Verdict, passed, refused, ◌then◌}
 use Rattle.floor.specs.declared.Floor.{Floor}
-use Rattle.floor.specs.declared.Checked.{Checked}
-use Rattle.floor.specs.declared.Checked.TheVariants.{Passed}
-use Rattle.floor.specs.Answers.{verdict_of}
+use Rattle.floor.specs.declared.Refusal.{Refusal}
+use Rattle.fields.specs.Reached.{said_by}
 use Rattle.floor.specs.Checks.{check_of}
 use Rattle.sheet.specs.Values.{floor_at, walls_at}
 use Rattle.sheet.specs.Read.{sheet_verdict, read_verdict, read_floor, read_walls}
@@ -20,9 +20,9 @@ use Rattle.printing.proofs.PrintLaws.{WasRead, was_read, refusal_length}
 use Rattle.reporting.proofs.TextLaws.{counted}
 
 -- What the text of a floor that was read asks for: the floor is accepted, its walls are there, and what is asked besides.
-pub read_granted : {x : Checked} {P : Type 0} (text old walls : List ℕ) (f : Floor)
-    → (verdict_of x ≡ read_verdict text (length old)) × ((f ≡ read_floor text (length old)) × (walls ≡ read_walls text old))
-    → 1023 ≡ length old → x ≡ Passed → P → (check_of f (take f.walls walls) ≡ passed) × ((f.walls ≤ length walls) × P)
+pub read_granted : {x : Result Floor Refusal} {P : Type 0} (text old walls : List ℕ) (f : Floor)
+    → (said_by x ≡ read_verdict text (length old)) × (IfOk x (λ f. f ≡ read_floor text (length old)) × (walls ≡ read_walls text old))
+    → 1023 ≡ length old → x ≡ Ok f → P → (check_of f (take f.walls walls) ≡ passed) × ((f.walls ≤ length walls) × P)
 read_granted text old walls f r wide told p = let w = was_read text old walls f wide r told in (w.checked, (w.lent, p))
 
 -- What is printed of an accepted floor has at most `most` bytes.

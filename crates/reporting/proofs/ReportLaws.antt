@@ -1,15 +1,17 @@
 -- Texts put one behind the other, and the lengths of a report's lines.
-use Prim.Native.Nat.{ℕ, ◌+◌, ◌*◌, ◌≤◌}
+use Prim.Native.Nat.{ℕ, ◌+◌, ◌-◌, ◌*◌, ◌≤◌}
 use native.Mathlib.Omega.{arith}
 use native.Mathlib.Numerals.{add-one}
 use mathlib.Core.Bool.{Bool, true, false, cond}
-use mathlib.Core.Path.{◌≡◌, sym, ◌∙◌, ap}
+use mathlib.Core.Path.{◌≡◌, refl, sym, ◌∙◌, ap}
 use mathlib.Core.List.{List, [], ◌∷◌, ◌++◌}
-use borrow.Author.Tests.{eq-eqb, ne_eqb}
+use borrow.Author.Tests.{ne_eqb}
 use lib.Dec.{eqb}
-use lib.ListN.{length, get_or, take, set, length-append}
+use lib.ListN.{length, get_or, set, length-append}
+use lib.Seq.{drop-drop}
+use borrow.Rule.Slice.PartMut.{put_mid}
 use Rattle.laws.specs.Memory.{put}
-use Rattle.laws.proofs.PutLaws.{put_none, put_length, put_next, copy_end}
+use Rattle.laws.proofs.PutLaws.{put_none, put_length, put_next}
 use Rattle.fields.specs.Field.{field_of}
 use Rattle.sheet.specs.Text.{line_of, lines_of}
 use Rattle.sheet.proofs.LineText.{line_length}
@@ -19,10 +21,13 @@ use Rattle.reporting.specs.Text.{kept_word, sent_word, delivered_word, answer_wo
 use Rattle.reporting.specs.Text.{entry_line, entry_count, report_text, report_length}
 use Rattle.reporting.specs.Put.{PutAt}
 
--- Bytes copied to their end stand at their column.
-pub bytes_put : (old new bytes : List ℕ) (at n i : ℕ) → new ≡ put old at (take i bytes) → n ≡ length bytes → n ≤ i
-    → PutAt bytes old at new (at + n)
-bytes_put old new bytes at n i e s l = record { bytes = copy_end old new bytes at i e (omega arith); behind = omega arith }
+-- Bytes copied to a part of their length stand at its column.
+pub part_put : (old bytes moved : List ℕ) (at n : ℕ) → moved ≡ bytes → n ≡ length bytes
+    → PutAt bytes old at (put_mid at (at + n - at) old moved) (at + n)
+unfolding put
+part_put old bytes moved at n e s =
+    let size : at + n - at ≡ n = omega arith in
+    record { bytes = rw (e, size, drop-drop n at old, s) refl; behind = rw s refl }
 
 -- A text behind a text.
 pub put_behind : {xs ys old mid new : List ℕ} {at n next : ℕ} → PutAt xs old at mid n → PutAt ys mid n new next → next ≤ length old
@@ -33,18 +38,10 @@ put_behind {xs} {ys} {old} {mid} {new} {at} {n} {next} x y l =
       behind = omega (arith, x.behind, y.behind, length-append xs ys);
     }
 
--- The three words.
-pub word_kept : (a : ℕ) → a ≡ 0 → answer_word a ≡ kept_word
+-- The third word.
+pub word_delivered : (a : ℕ) → 2 ≤ a → answer_word a ≡ delivered_word
 unfolding answer_word
-word_kept a e = rw (eq-eqb _ _ e)
-
-pub word_sent : (a : ℕ) → (a ≡ 0 → ⊥) → a ≡ 1 → answer_word a ≡ sent_word
-unfolding answer_word
-word_sent a z e = rw (ne_eqb _ _ z, eq-eqb _ _ e)
-
-pub word_delivered : (a : ℕ) → (a ≡ 0 → ⊥) → (a ≡ 1 → ⊥) → answer_word a ≡ delivered_word
-unfolding answer_word
-word_delivered a z e = rw (ne_eqb _ _ z, ne_eqb _ _ e)
+word_delivered a l = rw (ne_eqb a 0 (λ (e : a ≡ 0). omega arith), ne_eqb a 1 (λ (e : a ≡ 1). omega arith))
 
 -- A word has at most 9 letters, an entry's line at most 21 bytes.
 pub word_within : (a : ℕ) → length (answer_word a) ≤ 9
@@ -55,11 +52,6 @@ word_within a = either (eqb a 0) (eqb a 1)
     either true y = omega arith
     either false true = omega arith
     either false false = omega arith
-
--- The word of an answer, put.
-pub word_put : (a : ℕ) {xs old new : List ℕ} {at next : ℕ} → answer_word a ≡ xs → PutAt xs old at new next
-    → PutAt (answer_word a) old at new next × (next ≤ at + 9)
-word_put a e p = (rw e p, omega (arith, p.behind, ap length e, word_within a))
 
 -- The line of a step, put piece by piece.
 pub step_put : (m m₁ m₂ m₃ : List ℕ) (at p number a next : ℕ) → m₁ ≡ put m at (field_of p) → m₂ ≡ put m₁ (at + 5) (field_of number)

@@ -13,13 +13,9 @@ pub fn put_bytes(out: &mut [u8], at: usize, bytes: &[u8]) -> usize
     requires { at + length bytes.now ≤ length out.old }
     ensures { PutAt bytes.now out.old at out.new result }
 {
-    let n = bytes.len();
-    let mut t: usize = 0;
-    while t < n {
-        out[at + t] = bytes[t];
-        t += 1;
-    }
-    at + n
+    let end = at + bytes.len();
+    out[at..end].copy_from_slice(bytes);
+    end
 }
 
 // Puts a number below 100 in decimal digits; the column behind it is returned.
@@ -28,9 +24,9 @@ pub fn put_short_decimal(out: &mut [u8], at: usize, n: usize) -> usize
     ensures { PutAt (short_decimal n) out.old at out.new result }
 {
     if n < 10 {
-        return put_bytes(out, at, &[48 + n as u8]);
+        return put_bytes(out, at, &[b'0' + n as u8]);
     }
-    put_bytes(out, at, &[48 + (n / 10) as u8, 48 + (n % 10) as u8])
+    put_bytes(out, at, &[b'0' + (n / 10) as u8, b'0' + (n % 10) as u8])
 }
 
 // Puts the word of an answer; the column behind it is returned.
@@ -39,13 +35,11 @@ fn put_word(out: &mut [u8], at: usize, answer: u16) -> usize
     ensures puts { PutAt (answer_word answer) out.old at out.new result }
     ensures short { result ≤ at + 9 }
 {
-    if answer == 0 {
-        return put_bytes(out, at, b"kept");
+    match answer {
+        0 => put_bytes(out, at, b"kept"),
+        1 => put_bytes(out, at, b"sent"),
+        _ => put_bytes(out, at, b"delivered"),
     }
-    if answer == 1 {
-        return put_bytes(out, at, b"sent");
-    }
-    put_bytes(out, at, b"delivered")
 }
 
 // Puts the line of a step; the column behind it is returned.
@@ -58,7 +52,7 @@ fn put_step(out: &mut [u8], at: usize, place: u16, number: u16, answer: u16) -> 
     fields::put_field(out, at + 5, number);
     out[at + 10] = b' ';
     let end = put_word(out, at + 11, answer);
-    out[end] = 10;
+    out[end] = b'\n';
     end + 1
 }
 
@@ -70,10 +64,8 @@ fn put_entries(report: &[u16], out: &mut [u8]) -> usize
 {
     let steps = report.len() / 2;
     let mut at: usize = 16;
-    let mut k: usize = 0;
-    while k < steps {
+    for k in 0..steps {
         at = put_step(out, at, k as u16 + 1, report[2 * k], report[2 * k + 1]);
-        k += 1;
     }
     at
 }
@@ -86,7 +78,7 @@ fn put_line(a: u16, b: u16, c: u16, out: &mut [u8]) -> usize
     fields::put_field(out, 0, a);
     fields::put_field(out, 5, b);
     fields::put_field(out, 10, c);
-    out[15] = 10;
+    out[15] = b'\n';
     16
 }
 

@@ -1,17 +1,17 @@
 -- The conflict test of two routes as it is computed, beat by beat and kind by kind; and what the test of two routes is.
-use Rattle.std.specs.Prelude.{ℕ, zero, suc, Bool, cond, ◌&&◌, ◌||◌, not, List, [], ◌∷◌, ◌↔◌, ◌≡◌, eqb, ltb}
+use Rattle.std.specs.Prelude.{ℕ, zero, suc, Bool, cond, ◌&&◌, ◌||◌, not, List, [], ◌∷◌, ◌↔◌, ◌≡◌, eqb, ltb, Option, None, Some}
 use Rattle.route.specs.Route.{cell_at}
 use Rattle.route.specs.Conflict.{Conflict, ConflictFree}
 use Rattle.route.specs.FirstConflict.{ConflictKind, same_cell, change_of_places, following, FirstAt, ConflictAnswer, free, dated}
-use Rattle.route.specs.declared.FirstConflict.{FirstConflict}
-use Rattle.route.specs.declared.FirstConflict.TheVariants.{Free, SameCell, ChangeOfPlaces, Following}
+use Rattle.route.specs.declared.Conflict.{Conflict as Met}
+use Rattle.route.specs.declared.Conflict.TheVariants.{SameCell, ChangeOfPlaces, Following}
 
 -- What each case of the code's answer says.
-unfoldable pub conflict_told : FirstConflict → ConflictAnswer
-conflict_told Free = free
-conflict_told (SameCell t) = dated t same_cell
-conflict_told (ChangeOfPlaces t) = dated t change_of_places
-conflict_told (Following t) = dated t following
+unfoldable pub conflict_told : Option Met → ConflictAnswer
+conflict_told None = free
+conflict_told (Some (SameCell t)) = dated t same_cell
+conflict_told (Some (ChangeOfPlaces t)) = dated t change_of_places
+conflict_told (Some (Following t)) = dated t following
 
 -- A move from c to d and one from x to y change places.
 unfoldable pub changes : ℕ → ℕ → ℕ → ℕ → Bool

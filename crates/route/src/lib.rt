@@ -13,14 +13,12 @@ pub type Route = [u16; 64];
 fn last_beat(horizon: u16) -> usize
     ensures { (result ≡ min horizon 63) × (result ≤ 63) }
 {
-    if horizon < 63 { horizon as usize } else { 63 }
+    horizon.min(63) as usize
 }
 
-// What the conflict test of two routes finds, with the beat.
+// A conflict of two routes, with its beat.
 #[derive(Clone, Copy)]
-pub enum FirstConflict {
-    // No conflict.
-    Free,
+pub enum Conflict {
     // Both are in one cell at this beat.
     SameCell(usize),
     // They change places between this beat and the next.
@@ -30,62 +28,54 @@ pub enum FirstConflict {
 }
 
 // Whether a move from c to d and one from x to y change places.
+#[tactic(auto, unfolding(crate::specs::ConflictTest::changes))]
 fn change_places(c: u16, d: u16, x: u16, y: u16) -> bool
     ensures { result ≡ changes c d x y }
 {
-    if c == y { d == x } else { false }
+    c == y && d == x
 }
 
 // Whether a move from c to d enters the cell that a move from x to y leaves.
+#[tactic(auto, unfolding(crate::specs::ConflictTest::enters))]
 fn enters_left(c: u16, d: u16, x: u16, y: u16) -> bool
     ensures { result ≡ enters c d x y }
 {
-    if d != x {
-        return false;
-    }
-    if d == c {
-        return false;
-    }
-    y != x
+    d == x && d != c && y != x
 }
 
 // Whether, of a move from c to d and one from x to y, one enters the cell that the other leaves.
+#[tactic(auto, unfolding(crate::specs::ConflictTest::follows))]
 fn following(c: u16, d: u16, x: u16, y: u16) -> bool
     ensures { result ≡ follows c d x y }
 {
-    if enters_left(c, d, x, y) {
-        return true;
-    }
-    enters_left(x, y, c, d)
+    enters_left(c, d, x, y) || enters_left(x, y, c, d)
 }
 
-// The first conflict of two routes through the horizon; at one beat same cell comes before change of places, and this before following.
-pub fn first_conflict(r: Route, q: Route, horizon: u16) -> FirstConflict
+// The first conflict of two routes through the horizon, if there is one; at one beat same cell comes before change of places, and this before following.
+pub fn first_conflict(r: Route, q: Route, horizon: u16) -> Option<Conflict>
     ensures { conflict_told result ≡ first_conflict (min horizon 63) r q }
 {
     let last = last_beat(horizon);
-    let mut t: usize = 0;
-    while t < last {
+    for t in 0..last {
         let next = t + 1;
         let c = r[t];
         let d = r[next];
         let x = q[t];
         let y = q[next];
         if c == x {
-            return FirstConflict::SameCell(t);
+            return Some(Conflict::SameCell(t));
         }
         if change_places(c, d, x, y) {
-            return FirstConflict::ChangeOfPlaces(t);
+            return Some(Conflict::ChangeOfPlaces(t));
         }
         if following(c, d, x, y) {
-            return FirstConflict::Following(t);
+            return Some(Conflict::Following(t));
         }
-        t = next;
     }
     if r[last] == q[last] {
-        return FirstConflict::SameCell(last);
+        return Some(Conflict::SameCell(last));
     }
-    FirstConflict::Free
+    None
 }
 
 // The least beat from which a route is at its last cell through the horizon.
@@ -95,12 +85,10 @@ pub fn arrival(r: Route, horizon: u16) -> u16
     let last = last_beat(horizon);
     let end = r[last];
     let mut a: usize = 0;
-    let mut t: usize = 0;
-    while t < last {
+    for t in 0..last {
         if r[t] != end {
             a = t + 1;
         }
-        t += 1;
     }
     a as u16
 }

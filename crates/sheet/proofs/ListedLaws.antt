@@ -1,16 +1,18 @@
 -- Laws of listed numbers: their length, their places, and how a loop that stores them one by one meets them.
-use Prim.Native.Nat.{ℕ, zero, suc, ◌+◌, ◌≤◌, ◌<◌}
+use Prim.Native.Nat.{ℕ, zero, suc, ◌+◌, ◌-◌, ◌≤◌, ◌<◌}
 use native.Mathlib.Omega.{arith}
 use native.Mathlib.Numerals.{add-one}
 use native.Mathlib.Decide.{dec_lt, ℕ_discrete}
 use borrow.Author.Count.{below_more}
 use borrow.Author.Rules.{rules}
-use mathlib.Core.Path.{◌≡◌, refl, sym, ◌∙◌}
+use mathlib.Core.Path.{◌≡◌, refl, sym, ◌∙◌, ap}
 use mathlib.Core.List.{List, [], ◌∷◌, ◌++◌, append_assoc}
 use borrow.Author.Tests.{lt-ltb, le-ltb}
 use lib.ListN.{length, get_or, set, drop, replicate, length-append, length-set, length-drop, length-replicate, get_or-replicate}
 use lib.ListN.{get_or-append}
-use lib.Seq.{ext_get_or, get_or-set_same, get_or-set_other, get_or_at, set_at, drop-cons}
+use borrow.Rule.Slice.PartMut.{put_mid}
+use Rattle.std.proofs.lemmas.List.{places}
+use lib.Seq.{length-take-le, ext_get_or, get_or-set_same, get_or-set_other, get_or_at, set_at, drop-cons}
 use Rattle.sheet.specs.Values.{listed, up_to}
 
 module _ (φ : ℕ → ℕ) where
@@ -117,6 +119,34 @@ module _ (φ : ℕ → ℕ) where
   -- A loop that stores the numbers of an array in their places: one more store, and after the last.
   pub up_to_step : (i x k : ℕ) (xs : List ℕ) → i < k → xs ≡ listed (up_to i φ) k → x ≡ φ i → set xs i x ≡ listed (up_to (i + 1) φ) k
   up_to_step i x k xs l e f = rw (e, f) (up_to_store i k l)
+
+  -- A block of numbers stored in their places.
+  pub up_to_block : (i b n : ℕ) (xs ys : List ℕ) → i + b ≤ n → xs ≡ listed (up_to i φ) n → ys ≡ listed (λ (j : ℕ). φ (i + j)) b
+      → put_mid i (i + b - i) xs ys ≡ listed (up_to (i + b) φ) n
+  up_to_block i b n xs ys l e f =
+      let q : i + b - i ≡ b = omega arith in
+      rw q (ext_get_or 0 (put_mid i b xs ys) (listed (up_to (i + b) φ) n) (whole ∙ sym (listed_length (up_to (i + b) φ) n))
+      (λ k h. let m : k < n = omega (arith, whole, h) in at k m (dec_lt k i) (dec_lt k (i + b))))
+    where
+      long : length xs ≡ n
+      long = rw e (listed_length (up_to i φ) n)
+
+      wide : length ys ≡ b
+      wide = rw f (listed_length (λ (j : ℕ). φ (i + j)) b)
+
+      whole : length (put_mid i b xs ys) ≡ n
+      whole = rw (length-append, length-append, length-take-le i xs (omega (arith, long)), length-drop, length-drop) (omega (arith, long, wide))
+
+      old : (k : ℕ) → k < n → get_or xs k 0 ≡ up_to i φ k
+      old k h = rw e (listed_at (up_to i φ) n k h)
+
+      new : (k : ℕ) → i ≤ k → k < i + b → get_or ys (k - i) 0 ≡ φ k
+      new k g h = let q : i + (k - i) ≡ k = omega arith in rw f (listed_at (λ (j : ℕ). φ (i + j)) b (k - i) (omega arith) ∙ ap φ q)
+
+      at : (k : ℕ) → k < n → Dec (k < i) → Dec (k < i + b) → get_or (put_mid i b xs ys) k 0 ≡ get_or (listed (up_to (i + b) φ) n) k 0
+      at k m (yes h) g = search (rules, places, long) ∙ old k m ∙ up_to_below i k h ∙ sym (listed_at (up_to (i + b) φ) n k m ∙ up_to_below (i + b) k (omega arith))
+      at k m (no h) (yes g) = search (rules, places, long, wide) ∙ new k (omega arith) g ∙ sym (listed_at (up_to (i + b) φ) n k m ∙ up_to_below (i + b) k g)
+      at k m (no h) (no g) = search (rules, places, long, wide) ∙ old k m ∙ up_to_past i k (omega arith) ∙ sym (listed_at (up_to (i + b) φ) n k m ∙ up_to_past (i + b) k (omega arith))
 
   pub up_to_end : (i n k : ℕ) (xs : List ℕ) → i ≤ n → n ≤ i → xs ≡ listed (up_to i φ) k → xs ≡ listed (up_to n φ) k
   up_to_end i n k xs a b h =

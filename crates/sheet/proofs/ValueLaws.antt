@@ -1,11 +1,12 @@
 -- What carriers' lines in good form have lent for, column by column.
-use Prim.Native.Nat.{ℕ, ◌+◌, ◌*◌, ◌/◌, ◌%◌, ◌≤◌, ◌<◌}
+use Prim.Native.Nat.{ℕ, ◌+◌, ◌-◌, ◌*◌, ◌/◌, ◌%◌, ◌≤◌, ◌<◌}
 use native.Mathlib.Omega.{arith}
 use native.Mathlib.Decide.{dec_lt}
 use native.Mathlib.Numerals.{add-one}
 use mathlib.Core.Path.{◌≡◌, refl, sym, ◌∙◌}
 use mathlib.Core.List.{List}
-use lib.ListN.{length, get_or}
+use borrow.Rule.Slice.PartMut.{put_mid}
+use lib.ListN.{length}
 use Rattle.floor.specs.declared.Floor.{Floor}
 use Rattle.laws.specs.Verdict.{passed}
 use Rattle.fields.specs.Form.{counted_form, counted_length, past_counted, column_past, lines_form}
@@ -13,7 +14,7 @@ use Rattle.sheet.specs.Form.{carrier_column}
 use Rattle.sheet.specs.Values.{value_at, cell_at_column, up_to, listed, count_in, dock_in, place_in, starts_at, counts_at, docks_at, head_at}
 use Rattle.sheet.specs.Values.{floor_at}
 use Rattle.sheet.proofs.FormLaws.{Lined, lined}
-use Rattle.sheet.proofs.ListedLaws.{listed_length, listed_same, up_to_at, up_to_below, up_to_past}
+use Rattle.sheet.proofs.ListedLaws.{listed_same, up_to_block, up_to_below, up_to_past}
 
 pub first_line_lem : (text : List ℕ) → 31 ≡ carrier_column text 0
 unfolding carrier_column column_past
@@ -24,7 +25,7 @@ module _ (text : List ℕ) (n : ℕ) (few : n ≤ 8) (good : lines_form (counted
     line : Lined text n i
     line = lined text n good i l
 
-    -- The start, the dock count and each dock lie within the text.
+    -- The start, the dock count and the docks lie within the text.
     pub start_there : carrier_column text i + 10 ≤ length text
     unfolding counted_length
     start_there = omega (arith, line.end, line.reach)
@@ -33,9 +34,9 @@ module _ (text : List ℕ) (n : ℕ) (few : n ≤ 8) (good : lines_form (counted
     unfolding counted_length
     count_there = omega (arith, line.end, line.reach)
 
-    pub dock_there : (k : ℕ) → k < count_in text i → carrier_column text i + 15 + 10 * k + 10 ≤ length text
-    unfolding counted_length
-    dock_there k g = omega (arith, line.end, line.reach, g)
+    pub docks_there : (at x : ℕ) → at ≡ carrier_column text i → x ≡ count_in text i → at + 15 + 10 * x ≤ length text
+    unfolding counted_length count_in
+    docks_there at x e h = omega (arith, line.end, line.reach, e, h)
 
     pub column_low : carrier_column text i ≤ 479
     column_low = omega (arith, line.column_low, few, l)
@@ -49,34 +50,29 @@ module _ (text : List ℕ) (n : ℕ) (few : n ≤ 8) (good : lines_form (counted
         let end = rw (← number, ← e) at line.end in
         (number, (omega (arith, number, line.most), (omega (arith, column_low, e), rw add-one (sym end))))
 
-    -- The column that was kept.
-    pub column_kept : (at : List ℕ) → at ≡ listed (up_to n (carrier_column text)) 8 → get_or at i 0 ≡ carrier_column text i
-    column_kept at e = rw e (up_to_at (carrier_column text) n 8 i l (omega (arith, l, few)))
-
-    pub count_kept : (xs : List ℕ) → xs ≡ listed (up_to n (count_in text)) 8 → get_or xs i 0 ≡ count_in text i
-    count_kept xs e = rw e (up_to_at (count_in text) n 8 i l (omega (arith, l, few)))
-
--- Eight numbers are kept.
-pub kept_long : (φ : ℕ → ℕ) (xs : List ℕ) → xs ≡ listed φ 8 → length xs ≡ 8
-kept_long φ xs e = rw e (listed_length φ 8)
-
 -- Place p of the docks of n carriers in a grid.
 abbrev pub place_with : List ℕ → (n width height p : ℕ) → ℕ
 place_with text n width height p =
     up_to n (λ (i : ℕ). up_to (count_in text i) (λ (k : ℕ). cell_at_column text width height (carrier_column text i + 15 + 10 * k)) (p % 4))
     (p / 4)
 
--- A place of the docks: past the carriers, past a dock count, and a dock.
-module _ (text : List ℕ) (n width height p : ℕ) where
-  pub place_none : n ≤ p / 4 → 0 ≡ place_with text n width height p
-  place_none l = sym (up_to_past _ _ _ l)
+-- The docks of a carrier stored in their places, behind those of the carriers before it.
+pub docks_step : (text : List ℕ) (n width height : ℕ) → n ≤ 8 → (i at count : ℕ) (xs ys : List ℕ) → i < n → at ≡ carrier_column text i
+    → count ≡ count_in text i → xs ≡ listed (up_to (4 * i) (place_with text n width height)) 32
+    → ys ≡ listed (up_to count (λ (k : ℕ). cell_at_column text width height (at + 15 + 10 * k))) 4
+    → put_mid (4 * i) (4 * i + 4 - 4 * i) xs ys ≡ listed (up_to (4 * (i + 1)) (place_with text n width height)) 32
+docks_step text n width height few i at count xs ys l e c a b =
+    let q : 4 * (i + 1) ≡ 4 * i + 4 = omega arith in
+    rw q (up_to_block place (4 * i) 4 32 xs ys (omega arith) a (b ∙ listed_same _ (λ (j : ℕ). place (4 * i + j)) 4 same))
+  where
+    place : ℕ → ℕ
+    place = place_with text n width height
 
-  pub place_past : p / 4 < n → count_in text (p / 4) ≤ p % 4 → 0 ≡ place_with text n width height p
-  place_past l g = sym (up_to_below _ _ _ l ∙ up_to_past _ _ _ g)
-
-  pub place_dock : p / 4 < n → p % 4 < count_in text (p / 4)
-      → cell_at_column text width height (carrier_column text (p / 4) + 15 + 10 * (p % 4)) ≡ place_with text n width height p
-  place_dock l g = sym (up_to_below _ _ _ l ∙ up_to_below _ _ _ g)
+    same : (j : ℕ) → j < 4 → up_to count (λ (k : ℕ). cell_at_column text width height (at + 15 + 10 * k)) j ≡ place (4 * i + j)
+    same j h =
+        let here : (4 * i + j) / 4 ≡ i = omega arith in
+        let within : (4 * i + j) % 4 ≡ j = omega arith in
+        rw (here, within, up_to_below _ n i l, e, c)
 
 -- After the docks of the last carrier: the places behind them are 0.
 pub places_all : (text : List ℕ) (f : Floor) (p : ℕ) (xs : List ℕ) → p ≤ 4 * f.carriers → 4 * f.carriers ≤ p →

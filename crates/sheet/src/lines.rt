@@ -32,17 +32,17 @@ fn put_head(f: Floor, out: &mut [u8])
     put_field(out, 15, f.depth);
     put_field(out, 20, f.carriers);
     put_field(out, 25, f.walls);
-    out[30] = 10;
+    out[30] = b'\n';
 }
 
 // The dock count of carrier i; 0 for one that the record has no place for.
 fn dock_count(f: Floor, i: usize) -> usize
     ensures { (result ≡ count_of f i) × (result ≤ 65535) }
 {
-    if 8 <= i {
-        return 0;
+    match f.counts.get(i) {
+        Some(count) => *count as usize,
+        None => 0,
     }
-    f.counts[i] as usize
 }
 
 // The column past the carriers' lines, at which the walls' begin.
@@ -51,10 +51,8 @@ pub fn walls_at(f: Floor) -> usize
 {
     let n = f.carriers as usize;
     let mut at: usize = 31;
-    let mut i: usize = 0;
-    while i < n {
+    for i in 0..n {
         at += 16 + 10 * dock_count(f, i);
-        i += 1;
     }
     at
 }
@@ -67,10 +65,8 @@ fn put_docks(f: Floor, i: usize, count: usize, out: &mut [u8], at: usize)
         (lines_of (λ k. field_of (dock_of f i k % f.width) ++ field_of (dock_of f i k / f.width)) count) }
 {
     let width = f.width;
-    let mut k: usize = 0;
-    while k < count {
+    for k in 0..count {
         put_cell(out, at + 10 * k, width, f.docks[4 * i + k]);
-        k += 1;
     }
 }
 
@@ -86,7 +82,7 @@ fn put_carrier(f: Floor, i: usize, out: &mut [u8], at: usize)
     put_cell(out, at, width, start);
     put_field(out, at + 10, count);
     put_docks(f, i, count as usize, out, at + 15);
-    out[at + 15 + 10 * count as usize] = 10;
+    out[at + 15 + 10 * count as usize] = b'\n';
 }
 
 // The carriers' lines.
@@ -98,11 +94,9 @@ fn put_carriers(f: Floor, out: &mut [u8])
 {
     let n = f.carriers as usize;
     let mut at: usize = 31;
-    let mut i: usize = 0;
-    while i < n {
+    for i in 0..n {
         put_carrier(f, i, out, at);
         at += 16 + 10 * dock_count(f, i);
-        i += 1;
     }
 }
 
@@ -113,7 +107,7 @@ fn put_wall(width: u16, c: u16, out: &mut [u8], at: usize)
     ensures { out.new ≡ put out.old at (wall_line width c) }
 {
     put_cell(out, at, width, c);
-    out[at + 10] = 10;
+    out[at + 10] = b'\n';
 }
 
 // The walls' lines.
@@ -125,10 +119,8 @@ fn put_walls(f: Floor, walls: &[u16], out: &mut [u8])
     let width = f.width;
     let base = walls_at(f);
     let k = f.walls as usize;
-    let mut j: usize = 0;
-    while j < k {
+    for j in 0..k {
         put_wall(width, walls[j], out, base + 11 * j);
-        j += 1;
     }
 }
 

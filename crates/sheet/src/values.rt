@@ -15,11 +15,7 @@ pub fn value(text: &[u8], at: usize) -> u16
     requires { at + 5 ≤ length text.now }
     ensures { result ≡ value_at text.now at }
 {
-    let x = fields::number(text, at);
-    if 65535 < x {
-        return 65535;
-    }
-    x as u16
+    fields::number(text, at).min(65535) as u16
 }
 
 // The cell number of a column and a row, or the first number past the grid.
@@ -27,10 +23,7 @@ fn cell_of(width: u16, height: u16, col: u16, row: u16) -> u16
     requires { (width ≤ 32) × (height ≤ 32) }
     ensures { result ≡ cell_of width height col row }
 {
-    if width <= col {
-        return width * height;
-    }
-    if height <= row {
+    if width <= col || height <= row {
         return width * height;
     }
     row * width + col
@@ -63,125 +56,44 @@ pub fn head(text: &[u8]) -> Floor
     }
 }
 
-// The columns at which the carriers' lines begin, and their dock counts.
-#[derive(Clone, Copy)]
-struct Lines {
-    at: [usize; 8],
-    counts: [u16; 8],
-}
-
-// The lines of the first n carriers.
-fn lines_of(text: &[u8], n: usize) -> Lines
-    requires n_bound { n ≤ 8 }
-    requires n_value { lines_form (counted_form text.now) (past_counted text.now) 31 n ≡ passed }
-    ensures columns { result.at ≡ listed (up_to n (carrier_column text.now)) 8 }
-    ensures counts { result.counts ≡ listed (up_to n (count_in text.now)) 8 }
-{
-    let mut at = [0usize; 8];
-    let mut counts = [0u16; 8];
-    let mut column: usize = 31;
-    let mut i: usize = 0;
-    while i < n {
-        let count = value(text, column + 10);
-        at[i] = column;
-        counts[i] = count;
-        column += 16 + 10 * count as usize;
-        i += 1;
-    }
-    Lines {
-        at: at,
-        counts: counts,
-    }
-}
-
-// The carriers' starts.
-fn starts(text: &[u8], f: Floor, at: [usize; 8]) -> [u16; 8]
+// The docks of a carrier, whose columns and rows stand from a column on; 0 past their count.
+fn docks(text: &[u8], f: Floor, at: usize, count: usize) -> [u16; 4]
     requires width_bound { (f.width ≤ 32) × (f.height ≤ 32) }
-    requires carriers_bound { (f.carriers ≤ 8) × (lines_form (counted_form text.now) (past_counted text.now) 31 f.carriers ≡ passed) }
-    requires at_value { at ≡ listed (up_to f.carriers (carrier_column text.now)) 8 }
-    ensures { result ≡ starts_at text.now f }
+    requires count_bound { (count ≤ 4) × (at + 10 * count ≤ length text.now) }
+    ensures { result ≡ listed (up_to count (λ k. cell_at_column text.now f.width f.height (at + 10 * k))) 4 }
 {
-    let n = f.carriers as usize;
-    let width = f.width;
-    let height = f.height;
-    let mut found = [0u16; 8];
-    let mut i: usize = 0;
-    while i < n {
-        found[i] = cell(text, width, height, at[i]);
-        i += 1;
+    let mut found = [0u16; 4];
+    for k in 0..count {
+        found[k] = cell(text, f.width, f.height, at + 10 * k);
     }
     found
 }
 
-// What stands at place p of the docks, for n carriers in a grid.
-fn dock(
-    text: &[u8],
-    at: &[usize],
-    counts: &[u16],
-    n: usize,
-    width: u16,
-    height: u16,
-    p: usize,
-) -> u16
-    requires width_bound { (width ≤ 32) × (height ≤ 32) }
-    requires n_bound { (n ≤ 8) × (lines_form (counted_form text.now) (past_counted text.now) 31 n ≡ passed) }
-    requires at_value { at.now ≡ listed (up_to n (carrier_column text.now)) 8 }
-    requires counts_value { (counts.now ≡ listed (up_to n (count_in text.now)) 8) × (p < 32) }
-    ensures { result ≡ up_to n (λ i. up_to (count_in text.now i)
-        (λ k. cell_at_column text.now width height (carrier_column text.now i + 15 + 10 * k)) (p % 4)) (p / 4) }
-{
-    let i = p / 4;
-    if n <= i {
-        return 0;
-    }
-    let k = p % 4;
-    if counts[i] as usize <= k {
-        return 0;
-    }
-    cell(text, width, height, at[i] + 15 + 10 * k)
-}
-
-// Their docks.
-fn docks(text: &[u8], f: Floor, at: [usize; 8], counts: [u16; 8]) -> [u16; 32]
-    requires width_bound { (f.width ≤ 32) × (f.height ≤ 32) }
-    requires carriers_bound { (f.carriers ≤ 8) × (lines_form (counted_form text.now) (past_counted text.now) 31 f.carriers ≡ passed) }
-    requires at_value { at ≡ listed (up_to f.carriers (carrier_column text.now)) 8 }
-    requires counts_value { counts ≡ counts_at text.now f }
-    ensures { result ≡ docks_at text.now f }
-{
-    let n = f.carriers as usize;
-    let width = f.width;
-    let height = f.height;
-    let last = 4 * n;
-    let mut found = [0u16; 32];
-    let mut p: usize = 0;
-    while p < last {
-        found[p] = dock(text, &at, &counts, n, width, height, p);
-        p += 1;
-    }
-    found
-}
-
-// The floor that the text says, from line 1.
+// The floor that the text says, from line 1: each carrier's line behind the one before it.
 pub fn floor(text: &[u8], f: Floor) -> Floor
     requires f_value { f ≡ head_at text.now }
     requires width_bound { (f.width ≤ 32) × (f.height ≤ 32) }
     requires carriers_bound { (f.carriers ≤ 8) × (lines_form (counted_form text.now) (past_counted text.now) 31 f.carriers ≡ passed) }
     ensures { result ≡ floor_at text.now }
 {
-    let lines = lines_of(text, f.carriers as usize);
-    let at = lines.at;
-    let few = lines.counts;
+    let n = f.carriers as usize;
+    let mut starts = [0u16; 8];
+    let mut counts = [0u16; 8];
+    let mut places = [0u16; 32];
+    let mut column: usize = 31;
+    for i in 0..n {
+        let count = value(text, column + 10);
+        starts[i] = cell(text, f.width, f.height, column);
+        counts[i] = count;
+        let few = docks(text, f, column + 15, count as usize);
+        places[4 * i..4 * i + 4].copy_from_slice(&few);
+        column += 16 + 10 * count as usize;
+    }
     Floor {
-        width: f.width,
-        height: f.height,
-        horizon: f.horizon,
-        depth: f.depth,
-        carriers: f.carriers,
-        walls: f.walls,
-        starts: starts(text, f, at),
-        counts: few,
-        docks: docks(text, f, at, few),
+        starts,
+        counts,
+        docks: places,
+        ..f
     }
 }
 
@@ -196,9 +108,7 @@ pub fn walls(text: &[u8], f: Floor, out: &mut [u16])
     let k = f.walls as usize;
     let width = f.width;
     let height = f.height;
-    let mut j: usize = 0;
-    while j < k {
+    for j in 0..k {
         out[j] = cell(text, width, height, base + 11 * j);
-        j += 1;
     }
 }

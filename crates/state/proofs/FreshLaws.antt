@@ -1,14 +1,15 @@
 -- The fresh state as numbers: two zeros, a block a carrier, and zeros.
 use Prim.Native.Nat.{ℕ, zero, suc, ◌+◌, ◌*◌, ◌-◌, ◌≤◌}
 use native.Mathlib.Omega.{arith}
-use native.Mathlib.Nat.{mul-zero, mul-suc, mul-add}
+use native.Mathlib.Nat.{zero-add, mul-zero, mul-suc, mul-add}
 use native.Mathlib.Numerals.{add-one}
 use mathlib.Core.Path.{◌≡◌, refl, sym, ◌∙◌, ap, ap₂}
 use mathlib.Core.List.{List, [], ◌∷◌, ◌++◌, append_assoc}
-use lib.ListN.{length, replicate, length-append, length-replicate, replicate-append-replicate}
-use borrow.Author.Rules.{rules}
+use lib.ListN.{length, take, drop, replicate, length-append, length-drop, length-replicate, replicate-append-replicate}
+use lib.Seq.{length-take-le, drop-drop}
+use borrow.Rule.Slice.PartMut.{put_mid}
 use Rattle.laws.specs.Memory.{put}
-use Rattle.laws.proofs.PutLaws.{put_none, put_next}
+use Rattle.laws.proofs.PutLaws.{put_next}
 use Rattle.records.specs.Records.{record_of, resized, slot}
 use Rattle.reference.specs.State.{fresh}
 use Rattle.encoding.proofs.SplitLaws.{carrier_length}
@@ -42,8 +43,6 @@ carriers_more m m' m'' i l e g =
     rw add-one
     (put_next m m' m'' (blocks i (carrier_block fresh)) (carrier_block fresh i) 2 (2 + 67 * i) e g (omega (arith, carriers_length i fresh))
     (omega (arith, carrier_length fresh i)))
-
-pub ruleset fresh_start = (put_none, rules)
 
 view_zeros : (i j : ℕ) → slot (fresh.view i j) ≡ replicate 65 0
 unfolding slot fresh resized
@@ -80,3 +79,17 @@ fresh_whole m m₁ m₂ m₃ n a b l e g from to k =
     (omega (arith, length-append front (blocks n (carrier_block fresh))))
     (omega (arith, length-replicate {A = ℕ} (326 * pairs_before n) 0)) in
     two ∙ ap (put m 0) (append_assoc front (blocks n (carrier_block fresh)) zeros ∙ sym (fresh_is n))
+
+-- Zeros in front of a memory, and zeros within one.
+pub zeros_front : (m xs : List ℕ) (k : ℕ) → k ≤ length m → xs ≡ replicate (length (take k m)) 0 → xs ++ drop k m ≡ put m 0 (replicate k 0)
+unfolding put
+zeros_front m xs k l e =
+    let long : length (take k m) ≡ k = length-take-le k m l in
+    rw (e, long, length-replicate {A = ℕ} k 0, zero-add) refl
+
+pub zeros_mid : (m xs : List ℕ) (a k : ℕ) → a + k ≤ length m → xs ≡ replicate (length (take k (drop a m))) 0
+    → put_mid a k m xs ≡ put m a (replicate k 0)
+unfolding put
+zeros_mid m xs a k l e =
+    let long : length (take k (drop a m)) ≡ k = length-take-le k (drop a m) (simp length-drop (omega arith)) in
+    rw (e, long, length-replicate {A = ℕ} k 0, drop-drop k a m) refl

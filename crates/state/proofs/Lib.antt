@@ -2,7 +2,6 @@
 pub mod PlaceLaws
 pub mod EachLaws
 pub mod CountLaws
-pub mod CellLaws
 pub mod FreshLaws
 pub mod RecordLaws
 pub mod NumbersLaws

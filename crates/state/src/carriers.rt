@@ -8,35 +8,22 @@ ghost use Rattle.encoding.specs.InnerSteps.{news_in};
 use crate::places::{answer_place, due_place, planned_place};
 use route::Route;
 
-// Whether 64 cells stand at a place.
-fn same_cells(m: &[u16], at: usize, cells: Route) -> bool
-    requires { at + 64 ≤ length m.now }
-    ensures { result ≡ same_cells (part m.now at 64) cells }
+// Whether the record of an answer stands at a place.
+#[tactic(auto, using(crate::proofs::RecordLaws::records_compared))]
+fn is_record(m: &[u16], at: usize, tag: u16, cells: Route) -> bool
+    requires { at + 65 ≤ length m.now }
+    ensures { result ≡ same_cells (part m.now at 65) (tag ∷ cells) }
 {
-    let mut t: usize = 0;
-    while t < records::CELLS {
-        if m[at + t] != cells[t] {
-            return false;
-        }
-        t += 1;
-    }
-    true
+    m[at] == tag && m[at + 1..at + records::SIZE] == cells[..]
 }
 
 // Whether an answer is news from carrier i: it had not planned before, or its answer changed.
+#[tactic(auto, unfolding(encoding::specs::InnerSteps::news_in))]
 pub fn is_news(m: &[u16], i: usize, tag: u16, cells: Route) -> bool
     requires { (i < 8) × (69 + 67 * i ≤ length m.now) }
     ensures { result ≡ news_in m.now i (tag ∷ cells) }
 {
-    let p = planned_place(i);
-    if m[p] != 1 {
-        return true;
-    }
-    let a = answer_place(i);
-    if m[a] != tag {
-        return true;
-    }
-    !same_cells(m, a + 1, cells)
+    m[planned_place(i)] != 1 || !is_record(m, answer_place(i), tag, cells)
 }
 
 // Carrier i's part: whether it has planned, whether it is due, and its answer.
@@ -44,12 +31,9 @@ pub fn write(m: &mut [u16], i: usize, planned: u16, due: u16, tag: u16, cells: R
     requires { (i < 8) × (69 + 67 * i ≤ length m.old) }
     ensures { m.new ≡ put m.old (planned_place i) (planned ∷ (due ∷ (tag ∷ cells))) }
 {
-    let p = planned_place(i);
-    let place = due_place(i);
-    let a = answer_place(i);
-    m[p] = planned;
-    m[place] = due;
-    records::store(m, a, tag, cells);
+    m[planned_place(i)] = planned;
+    m[due_place(i)] = due;
+    records::store(m, answer_place(i), tag, cells);
 }
 
 // Carrier i has planned this answer and is no longer due.
@@ -61,10 +45,10 @@ pub fn set_planned(m: &mut [u16], i: usize, tag: u16, cells: Route)
 }
 
 // Carrier i becomes due.
+#[tactic(auto, using(laws::proofs::PutLaws::put_one))]
 pub fn set_due(m: &mut [u16], i: usize)
     requires { (i < 8) × (69 + 67 * i ≤ length m.old) }
     ensures { m.new ≡ put m.old (due_place i) (1 ∷ []) }
 {
-    let due = due_place(i);
-    m[due] = 1;
+    m[due_place(i)] = 1;
 }

@@ -10,11 +10,6 @@ pub const PLACES: usize = Floor::MAX_DEPTH as usize;
 // The numbers of the taken count.
 pub const COUNT: usize = 2;
 
-// The flag due, and the answer, of the first carrier.
-const DUE: usize = COUNT + 1;
-
-const ANSWER: usize = COUNT + 2;
-
 // The numbers of a carrier: planned, due, its answer.
 const CARRIER: usize = 2 + records::SIZE;
 
@@ -25,49 +20,51 @@ const CHANNEL: usize = 1 + PLACES * records::SIZE;
 const PAIR: usize = records::SIZE + CHANNEL;
 
 // The pairs with a receiver below i.
+#[tactic(auto, unfolding(encoding::specs::Places::pairs_before), using(crate::proofs::PlaceLaws::pairs_more, crate::proofs::PlaceLaws::pairs_most))]
 pub fn pairs_before(i: usize) -> usize
     requires { i ≤ 8 }
     ensures { (result ≡ pairs_before i) × (result ≤ 28) }
 {
     let mut p: usize = 0;
-    let mut k: usize = 0;
-    while k < i {
+    for k in 0..i {
         p += k;
-        k += 1;
     }
     p
 }
 
-// The flag planned of carrier i.
-pub fn planned_place(i: usize) -> usize
-    requires { i < 8 }
-    ensures { (result ≡ planned_place i) × (result ≡ 2 + 67 * i) }
+// Where the numbers of carrier i begin, right behind those of the carriers before it; of n carriers, the first view is at the place n.
+pub fn carrier_place(i: usize) -> usize
+    requires { i ≤ 8 }
+    ensures { result ≡ 2 + 67 * i }
 {
     COUNT + CARRIER * i
 }
 
+// The flag planned of carrier i.
+#[tactic(auto, unfolding(encoding::specs::Places::planned_place))]
+pub fn planned_place(i: usize) -> usize
+    requires { i < 8 }
+    ensures { (result ≡ planned_place i) × (result ≡ 2 + 67 * i) }
+{
+    carrier_place(i)
+}
+
 // The flag due of carrier i.
+#[tactic(auto, unfolding(encoding::specs::Places::due_place))]
 pub fn due_place(i: usize) -> usize
     requires { i < 8 }
     ensures { (result ≡ due_place i) × (result ≡ 3 + 67 * i) }
 {
-    DUE + CARRIER * i
+    carrier_place(i) + 1
 }
 
 // The answer of carrier i.
+#[tactic(auto, unfolding(encoding::specs::Places::answer_place))]
 pub fn answer_place(i: usize) -> usize
     requires { i < 8 }
     ensures { (result ≡ answer_place i) × (result ≡ 4 + 67 * i) }
 {
-    ANSWER + CARRIER * i
-}
-
-// The first view of n carriers, right behind the carriers.
-pub fn pairs_place(n: usize) -> usize
-    requires { n ≤ 8 }
-    ensures { result ≡ 2 + 67 * n }
-{
-    COUNT + CARRIER * n
+    carrier_place(i) + 2
 }
 
 // The view that carrier i has of carrier j.
@@ -75,7 +72,7 @@ pub fn view_place(n: usize, i: usize, j: usize) -> usize
     requires { (j < i) × (i < n) × (n ≤ 8) }
     ensures { (result ≡ view_place n i j) × (result + 65 ≤ state_size n) × (result ≤ 9665) }
 {
-    COUNT + CARRIER * n + records::SIZE * (pairs_before(i) + j)
+    views_start(n, i) + records::SIZE * j
 }
 
 // The first view that carrier i has; the views of carrier i stand one behind the other.
@@ -83,7 +80,7 @@ pub fn views_start(n: usize, i: usize) -> usize
     requires { (i < n) × (n ≤ 8) }
     ensures { (result ≡ view_place n i 0) × (result + 65 * i ≤ state_size n) × (result ≤ 9665) }
 {
-    COUNT + CARRIER * n + records::SIZE * pairs_before(i)
+    carrier_place(n) + records::SIZE * pairs_before(i)
 }
 
 // The place behind the last view that carrier i has.
@@ -99,7 +96,7 @@ pub fn channel_place(n: usize, i: usize, j: usize) -> usize
     requires { (j < i) × (i < n) × (n ≤ 8) }
     ensures { (result ≡ channel_place n i j) × (result + 261 ≤ state_size n) × (result ≤ 9665) }
 {
-    COUNT + CARRIER * n + records::SIZE * pairs_before(n) + CHANNEL * (pairs_before(i) + j)
+    carrier_place(n) + records::SIZE * pairs_before(n) + CHANNEL * (pairs_before(i) + j)
 }
 
 // Place p of the channel that begins at `channel`; the oldest message stands in place 0.
@@ -111,9 +108,10 @@ pub fn message_place(channel: usize, p: usize) -> usize
 }
 
 // The needed length of a state.
+#[tactic(auto, unfolding(encoding::specs::Places::state_size))]
 pub fn state_size(n: usize) -> usize
     requires { n ≤ 8 }
     ensures { (result ≡ state_size n) × (result ≤ 9666) }
 {
-    COUNT + CARRIER * n + PAIR * pairs_before(n)
+    carrier_place(n) + PAIR * pairs_before(n)
 }

@@ -5,7 +5,7 @@ ghost use Rattle.reference.specs.State.{fresh};
 ghost use Rattle.encoding.specs.Places.{state_size};
 ghost use Rattle.encoding.specs.Encode.{encode, carrier_block, blocks};
 
-use crate::places::{COUNT, pairs_place, state_size};
+use crate::places::{COUNT, carrier_place, state_size};
 
 // Carrier i, fresh.
 fn write_carrier(m: &mut [u16], i: usize)
@@ -16,37 +16,23 @@ fn write_carrier(m: &mut [u16], i: usize)
 }
 
 // The first n carriers, fresh.
+#[tactic(auto, unfolding(encoding::specs::Encode::blocks), using(crate::proofs::FreshLaws::carriers_more))]
 fn write_carriers(m: &mut [u16], n: usize)
     requires { (n ≤ 8) × (2 + 67 * n ≤ length m.old) }
     ensures { m.new ≡ put m.old 2 (blocks n (carrier_block fresh)) }
 {
-    let mut i: usize = 0;
-    while i < n {
+    for i in 0..n {
         write_carrier(m, i);
-        i += 1;
-    }
-}
-
-// So many zeros from a place on.
-fn write_zeros(m: &mut [u16], at: usize, count: usize)
-    requires { at + count ≤ length m.old }
-    ensures { m.new ≡ put m.old at (replicate count 0) }
-{
-    let mut t: usize = 0;
-    while t < count {
-        m[at + t] = 0;
-        t += 1;
     }
 }
 
 // The fresh state of n carriers.
+#[tactic(auto, unfolding(encoding::specs::Places::state_size))]
 pub fn write_fresh(m: &mut [u16], n: usize)
     requires { (n ≤ 8) × (state_size n ≤ length m.old) }
     ensures { m.new ≡ put m.old 0 (encode n fresh) }
 {
-    write_zeros(m, 0, COUNT);
+    m[..COUNT].fill(0);
     write_carriers(m, n);
-    let a = pairs_place(n);
-    let end = state_size(n);
-    write_zeros(m, a, end - a);
+    m[carrier_place(n)..state_size(n)].fill(0);
 }

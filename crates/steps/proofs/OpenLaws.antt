@@ -23,7 +23,8 @@ use Rattle.encoding.specs.Numbers.{delivery_of, asked_by}
 use Rattle.encoding.specs.Calls.{machine_of}
 use Rattle.encoding.specs.InnerSteps.{capacity_in, waits_in, open_in, shut_in, silent_in}
 use Rattle.encoding.specs.InnerCalls.{single_verdict_in}
-use Rattle.steps.specs.Inner.{bare, capacity_at, plan_shut, delivery_shut, sender_shut}
+use Rattle.std.specs.Prelude.{Option, Some, None, is_none}
+use Rattle.steps.specs.Inner.{bare, capacity_at, FullSought, plan_shut, delivery_shut, sender_shut}
 
 module _ (x : ℕ) where
   pub low_none : x < 101 → no_step ≡ asked_by x
@@ -103,6 +104,12 @@ module _ (f : Floor) where
   unfolding is_there bare machine_of
   delivery_named j i a l = and_both (lt-ltb j i a) (lt-ltb i f.carriers l)
 
+-- A single test passes if it holds.
+pub demand_test : (x : Bool) (k p : ℕ) → passes (demand x k p) ≡ x
+unfolding passes demand
+demand_test true k p = refl
+demand_test false k p = refl
+
 -- A step that is open is there.
 module _ (f : Floor) (m : List ℕ) where
   pub open_there : (x : Step) → open_in (bare f) m x ≡ true → is_there (bare f) x ≡ true
@@ -139,11 +146,21 @@ module _ (f : Floor) (m : List ℕ) where
   unfolding waits_in demand ◌then◌
   plan_early i h = rw (ne_eqb _ 1 h) refl
 
-  pub plan_due : (i n : ℕ) → get_or m (due_place i) 0 ≡ 1 →
-      demand (leb f.carriers n) 13 (1 + n) ≡ demand_each 13 1 (capacity_at f.carriers f.depth m i) f.carriers →
-      demand (leb f.carriers n) 13 (1 + n) ≡ waits_in (bare f) m (plan i)
+  plan_due : (i : ℕ) → get_or m (due_place i) 0 ≡ 1 →
+      demand_each 13 1 (capacity_at f.carriers f.depth m i) f.carriers ≡ waits_in (bare f) m (plan i)
   unfolding waits_in capacity_in capacity_at bare machine_of
-  plan_due i n h e = e ∙ sym (then_passed (demand_passes 8 0 (eq-eqb _ 1 h)))
+  plan_due i h = sym (then_passed (demand_passes 8 0 (eq-eqb _ 1 h)))
+
+  -- Whether a plan is open: it is there, due, and no channel is full.
+  pub plan_is_open : (i : ℕ) (full : Option ℕ) → i < f.carriers → get_or m (due_place i) 0 ≡ 1
+      → FullSought (demand_each 13 1 (capacity_at f.carriers f.depth m i) f.carriers) f.carriers full → is_none full ≡ open_in (bare f) m (plan i)
+  unfolding open_in passes
+  plan_is_open i None l h e = rw (plan_named f i l, sym (plan_due i h), e) refl
+  plan_is_open i (Some k) l h e = rw (plan_named f i l, sym (plan_due i h), e.1) refl
+
+  pub plan_not_due : (i : ℕ) → i < f.carriers → (get_or m (due_place i) 0 ≡ 1 → ⊥) → false ≡ open_in (bare f) m (plan i)
+  unfolding open_in passes
+  plan_not_due i l h = rw (plan_named f i l, sym (plan_early i h)) refl
 
   -- What a delivery waits for.
   pub delivery_waits : (j i : ℕ) →
@@ -151,11 +168,11 @@ module _ (f : Floor) (m : List ℕ) where
   unfolding waits_in bare machine_of
   delivery_waits j i = refl
 
--- A single test passes if it holds.
-pub demand_test : (x : Bool) (k p : ℕ) → passes (demand x k p) ≡ x
-unfolding passes demand
-demand_test true k p = refl
-demand_test false k p = refl
+  pub delivery_is_open : (j i : ℕ) → j < i → i < f.carriers
+      → not (eqb (get_or m (channel_place f.carriers i j) 0) 0) ≡ open_in (bare f) m (deliver j i)
+  unfolding open_in
+  delivery_is_open j i a l =
+      rw (delivery_named f j i a l, sym (delivery_waits j i)) (sym (demand_test _ 12 (1 + i)))
 
 -- The search for the first full channel from i: no carrier up to i has one; one more that has capacity; the first that has none; the end.
 pub capacity_start : (n depth : ℕ) (m : List ℕ) (i : ℕ) → demand_each 13 1 (capacity_at n depth m i) (i + 1) ≡ passed
@@ -165,12 +182,12 @@ capacity_start n depth m i =
     (λ k l. or_inl (leb k i) _ (le-leb k i (omega arith)))
 
 pub capacity_stop : {x : Bool} (ok : ℕ → Bool) (k n : ℕ) → demand_each 13 1 ok k ≡ passed → x ≡ ok k → not x ≡ true → k < n →
-    demand (leb n k) 13 (1 + k) ≡ demand_each 13 1 ok n
-capacity_stop ok k n h e s l = demand_refuses 13 (1 + k) (lt-leb n k l) ∙ tests_stop 13 1 ok k n h e s l
+    FullSought (demand_each 13 1 ok n) n (Some k)
+capacity_stop ok k n h e s l = (l, sym (tests_stop 13 1 ok k n h e s l))
 
 pub capacity_end : (ok : ℕ → Bool) (k n : ℕ) → demand_each 13 1 ok k ≡ passed → k ≤ n → n ≤ k →
-    demand (leb n n) 13 (1 + n) ≡ demand_each 13 1 ok n
-capacity_end ok k n h a b = demand_passes 13 (1 + n) (le-leb n n (omega arith)) ∙ each_end 13 1 ok k n a b h
+    FullSought (demand_each 13 1 ok n) n None
+capacity_end ok k n h a b = sym (each_end 13 1 ok k n a b h)
 
 pub ruleset full_search = (capacity_start, tests_go_on, capacity_stop, capacity_end, rules)
 
@@ -189,3 +206,8 @@ silent_is f m =
 pub silent_by : {x : Bool} (f : Floor) (m : List ℕ) → x ≡ (each f.carriers (plan_shut f m) && each f.carriers (sender_shut f m)) →
     x ≡ silent_in (bare f) m
 silent_by f m e = e ∙ silent_is f m
+
+-- A law a case of the code that tests whether a plan, or a delivery, is open.
+pub ruleset plan_cases = (plan_absent, plan_not_due, plan_is_open, rules)
+
+pub ruleset delivery_cases = (upward_absent, receiver_absent, delivery_is_open, rules)

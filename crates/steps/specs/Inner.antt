@@ -1,11 +1,11 @@
 -- Inner matter: nothing claimed rests on this. What the functions of steps are proved against.
-use Rattle.std.specs.Prelude.{ℕ, ◌+◌, ◌-◌, ◌≤◌, Bool, ◌||◌, List, [], ◌≡◌, leb, ltb, length, get_or}
+use Rattle.std.specs.Prelude.{ℕ, ◌+◌, ◌-◌, ◌≤◌, ◌<◌, Option, Some, None, Bool, ◌||◌, List, [], ◌≡◌, leb, ltb, length, get_or}
 use Rattle.floor.specs.declared.Floor.{Floor}
 use Rattle.floor.specs.Accepted.{Accepted}
 use Rattle.search.specs.Rows.{FreeRows}
 use Rattle.reference.specs.State.{Machine}
 use Rattle.reference.specs.Step.{Step, plan, deliver}
-use Rattle.laws.specs.Verdict.{each}
+use Rattle.laws.specs.Verdict.{Verdict, passed, refused, each}
 use Rattle.encoding.specs.Places.{channel_place, state_size}
 use Rattle.encoding.specs.Calls.{machine_of}
 use Rattle.encoding.specs.InnerSteps.{shut_in, effect_in, after_in, step_answer_in}
@@ -19,6 +19,11 @@ bare f = machine_of f []
 -- Of n carriers, the channel from carrier i to carrier k has fewer than depth messages; a carrier that is not below i has no such channel.
 unfoldable pub capacity_at : (n depth : ℕ) → List ℕ → ℕ → ℕ → Bool
 capacity_at n depth m i k = leb k i || ltb (get_or m (channel_place n k i) 0) depth
+
+-- The smallest carrier, of n, to which a channel is full: 13 names it; none where the test of each finds nothing.
+abbrev pub FullSought : Verdict → ℕ → Option ℕ → Type 0
+FullSought tested n (Some k) = (k < n) × (tested ≡ refused 13 (1 + k))
+FullSought tested n None = tested ≡ passed
 
 -- The plan of carrier i is not open; the delivery from j to the carrier d + 1 below it is not; no delivery from j is.
 unfoldable pub plan_shut : Floor → List ℕ → ℕ → Bool

@@ -19,15 +19,6 @@ pub enum Step {
     Deliver { from: usize, to: usize },
 }
 
-// A step as it is asked for.
-#[derive(Clone, Copy)]
-pub enum Asked {
-    // A step.
-    Known(Step),
-    // The number names no kind of step.
-    NoKind,
-}
-
 // What a step that was taken answers.
 #[derive(Clone, Copy)]
 pub enum Taken {

@@ -1,74 +1,61 @@
 // Which steps are open in a state, what a step waits for, and whether any is open.
-ghost use Rattle.std.specs.Prelude.{◌≡◌, true, false, ◌+◌, ◌≤◌, ◌<◌, ◌-◌, leb, eqb, length, get_or};
+ghost use Rattle.std.specs.Prelude.{◌≡◌, true, ◌+◌, ◌≤◌, ◌<◌, eqb, length, get_or};
 ghost use Rattle.laws.specs.Verdict.{demand, demand_each, each};
 ghost use Rattle.floor.specs.Answers.{verdict_of};
 ghost use Rattle.reference.specs.Step.{plan, deliver, is_there};
 ghost use Rattle.encoding.specs.Places.{due_place, state_size};
 ghost use Rattle.encoding.specs.InnerSteps.{capacity_in, waits_in, open_in, silent_in};
 ghost use Rattle.steps.specs.Answers.{step_meant};
-ghost use Rattle.steps.specs.Inner.{bare, capacity_at, plan_shut, sender_shut};
+ghost use Rattle.steps.specs.Inner.{bare, capacity_at, FullSought, plan_shut, sender_shut};
 
 use crate::Step;
-use floor::{Checked, Floor, Refusal};
+use floor::{Floor, Reason, Refusal};
 
 // Whether the channel from carrier i to carrier k below it has fewer than depth messages.
+#[tactic(auto, unfolding(crate::specs::Inner::capacity_at))]
 fn has_capacity(n: usize, depth: u16, m: &[u16], i: usize, k: usize) -> bool
     requires { (i < k) × (k < n) × (n ≤ 8) × (state_size n ≤ length m.now) }
     ensures { result ≡ capacity_at n depth m.now i k }
 {
-    let c = state::channel_place(n, k, i);
-    m[c] < depth
+    m[state::channel_place(n, k, i)] < depth
 }
 
-// The smallest carrier to which the channel from carrier i is full; n if none is.
-fn first_full(n: usize, depth: u16, m: &[u16], i: usize) -> usize
+// The smallest carrier to which the channel from carrier i is full, if one is.
+#[tactic(auto, using(crate::proofs::OpenLaws::full_search))]
+fn first_full(n: usize, depth: u16, m: &[u16], i: usize) -> Option<usize>
     requires { (i < n) × (n ≤ 8) × (state_size n ≤ length m.now) }
-    ensures { (result ≤ n) × (demand (leb n result) 13 (1 + result) ≡ demand_each 13 1
-        (capacity_at n depth m.now i) n) }
+    ensures { FullSought (demand_each 13 1 (capacity_at n depth m.now i) n) n result }
 {
-    let mut k: usize = i + 1;
-    while k < n {
+    for k in i + 1..n {
         if !has_capacity(n, depth, m, i, k) {
-            return k;
+            return Some(k);
         }
-        k += 1;
     }
-    n
+    None
 }
 
 // Whether the plan of carrier i is open: it is there and due, and no channel from it is full.
+#[tactic(auto, unfolding(encoding::specs::Places::state_size), using(crate::proofs::OpenLaws::plan_cases))]
 fn plan_open(f: Floor, m: &[u16], i: usize) -> bool
     requires { (f.carriers ≤ 8) × (state_size f.carriers ≤ length m.now) }
     ensures { result ≡ open_in (bare f) m.now (plan i) }
 {
     let n = f.carriers as usize;
-    if i >= n {
-        return false;
-    }
-    let d = state::due_place(i);
-    if m[d] != 1 {
-        return false;
-    }
-    first_full(n, f.depth, m, i) >= n
+    i < n && m[state::due_place(i)] == 1 && first_full(n, f.depth, m, i).is_none()
 }
 
 // Whether the delivery from carrier j to carrier i is open: it is there, and so is a message.
+#[tactic(auto, using(crate::proofs::OpenLaws::delivery_cases))]
 fn delivery_open(f: Floor, m: &[u16], j: usize, i: usize) -> bool
     requires { (f.carriers ≤ 8) × (state_size f.carriers ≤ length m.now) }
     ensures { result ≡ open_in (bare f) m.now (deliver j i) }
 {
     let n = f.carriers as usize;
-    if j >= i {
-        return false;
-    }
-    if i >= n {
-        return false;
-    }
-    let c = state::channel_place(n, i, j);
-    m[c] != 0
+    j < i && i < n && m[state::channel_place(n, i, j)] != 0
 }
 
 // Whether a step is open.
+#[tactic(auto, unfolding(crate::specs::Answers::step_meant))]
 pub fn is_open(f: Floor, m: &[u16], x: Step) -> bool
     requires { (f.carriers ≤ 8) × (state_size f.carriers ≤ length m.now) }
     ensures { result ≡ open_in (bare f) m.now (step_meant x) }
@@ -80,65 +67,61 @@ pub fn is_open(f: Floor, m: &[u16], x: Step) -> bool
 }
 
 // 8 unless carrier i is due.
-fn due_waits(f: Floor, m: &[u16], i: usize) -> Checked
+#[tactic(auto, unfolding(encoding::specs::Places::state_size, floor::specs::Answers::verdict_of, laws::specs::Verdict::demand))]
+fn due_waits(f: Floor, m: &[u16], i: usize) -> Result<(), Refusal>
     requires { (i < f.carriers) × (f.carriers ≤ 8) × (state_size f.carriers ≤ length m.now) }
     ensures { verdict_of result ≡ demand (eqb (get_or m.now (due_place i) 0) 1) 8 0 }
 {
-    let d = state::due_place(i);
-    if m[d] == 1 {
-        return Checked::Passed;
+    if m[state::due_place(i)] != 1 {
+        return Err(Refusal {
+            reason: Reason::NotDue,
+            place: 0,
+        });
     }
-    Checked::Refused(Refusal {
-        number: 8,
-        place: 0,
-    })
+    Ok(())
 }
 
 // 13 with the smallest receiver whose channel from carrier i is full.
-fn capacity_waits(f: Floor, m: &[u16], i: usize) -> Checked
+#[tactic(auto, unfolding(encoding::specs::InnerSteps::capacity_in, crate::specs::Inner::capacity_at, crate::specs::Inner::bare, encoding::specs::Calls::machine_of, floor::specs::Answers::verdict_of))]
+fn capacity_waits(f: Floor, m: &[u16], i: usize) -> Result<(), Refusal>
     requires { (i < f.carriers) × (f.carriers ≤ 8) × (state_size f.carriers ≤ length m.now) }
     ensures { verdict_of result ≡ demand_each 13 1 (capacity_in (bare f) m.now i) f.carriers }
 {
-    let n = f.carriers as usize;
-    let k = first_full(n, f.depth, m, i);
-    if k >= n {
-        return Checked::Passed;
+    match first_full(f.carriers as usize, f.depth, m, i) {
+        Some(k) => Err(Refusal {
+            reason: Reason::ChannelFull,
+            place: 1 + k,
+        }),
+        None => Ok(()),
     }
-    Checked::Refused(Refusal {
-        number: 13,
-        place: 1 + k,
-    })
 }
 
 // What the plan of carrier i waits for: that it is due, then capacity in its channels.
-fn plan_waits(f: Floor, m: &[u16], i: usize) -> Checked
+fn plan_waits(f: Floor, m: &[u16], i: usize) -> Result<(), Refusal>
     requires { (i < f.carriers) × (f.carriers ≤ 8) × (state_size f.carriers ≤ length m.now) }
     ensures { verdict_of result ≡ waits_in (bare f) m.now (plan i) }
 {
-    let due = due_waits(f, m, i);
-    let Checked::Passed = due else {
-        return due;
-    };
+    due_waits(f, m, i)?;
     capacity_waits(f, m, i)
 }
 
 // What the delivery from carrier j to carrier i waits for: 12 with the addressee unless a message is there.
-fn delivery_waits(f: Floor, m: &[u16], j: usize, i: usize) -> Checked
+#[tactic(auto, unfolding(encoding::specs::InnerSteps::waits_in, crate::specs::Inner::bare, encoding::specs::Calls::machine_of, floor::specs::Answers::verdict_of, laws::specs::Verdict::demand))]
+fn delivery_waits(f: Floor, m: &[u16], j: usize, i: usize) -> Result<(), Refusal>
     requires { (j < i) × (i < f.carriers) × (f.carriers ≤ 8) × (state_size f.carriers ≤ length m.now) }
     ensures { verdict_of result ≡ waits_in (bare f) m.now (deliver j i) }
 {
-    let c = state::channel_place(f.carriers as usize, i, j);
-    if m[c] != 0 {
-        return Checked::Passed;
+    if m[state::channel_place(f.carriers as usize, i, j)] == 0 {
+        return Err(Refusal {
+            reason: Reason::NothingSent,
+            place: 1 + i,
+        });
     }
-    Checked::Refused(Refusal {
-        number: 12,
-        place: 1 + i,
-    })
+    Ok(())
 }
 
 // What a step that is there waits for.
-pub fn waits(f: Floor, m: &[u16], x: Step) -> Checked
+pub fn waits(f: Floor, m: &[u16], x: Step) -> Result<(), Refusal>
     requires x_value { is_there (bare f) (step_meant x) ≡ true }
     requires carriers_bound { (f.carriers ≤ 8) × (state_size f.carriers ≤ length m.now) }
     ensures { verdict_of result ≡ waits_in (bare f) m.now (step_meant x) }
@@ -154,15 +137,7 @@ fn plans_shut(f: Floor, m: &[u16]) -> bool
     requires { (f.carriers ≤ 8) × (state_size f.carriers ≤ length m.now) }
     ensures { result ≡ each f.carriers (plan_shut f m.now) }
 {
-    let n = f.carriers as usize;
-    let mut i: usize = 0;
-    while i < n {
-        if plan_open(f, m, i) {
-            return false;
-        }
-        i += 1;
-    }
-    true
+    (0..f.carriers as usize).all(|i| !plan_open(f, m, i))
 }
 
 // Whether no delivery from carrier j is open.
@@ -170,15 +145,7 @@ fn sender_shut(f: Floor, m: &[u16], j: usize) -> bool
     requires { (j < f.carriers) × (f.carriers ≤ 8) × (state_size f.carriers ≤ length m.now) }
     ensures { result ≡ sender_shut f m.now j }
 {
-    let below = f.carriers as usize - (j + 1);
-    let mut d: usize = 0;
-    while d < below {
-        if delivery_open(f, m, j, j + 1 + d) {
-            return false;
-        }
-        d += 1;
-    }
-    true
+    (0..f.carriers as usize - (j + 1)).all(|d| !delivery_open(f, m, j, j + 1 + d))
 }
 
 // Whether no delivery is open.
@@ -186,24 +153,14 @@ fn deliveries_shut(f: Floor, m: &[u16]) -> bool
     requires { (f.carriers ≤ 8) × (state_size f.carriers ≤ length m.now) }
     ensures { result ≡ each f.carriers (sender_shut f m.now) }
 {
-    let n = f.carriers as usize;
-    let mut j: usize = 0;
-    while j < n {
-        if !sender_shut(f, m, j) {
-            return false;
-        }
-        j += 1;
-    }
-    true
+    (0..f.carriers as usize).all(|j| sender_shut(f, m, j))
 }
 
 // Whether no step is open.
+#[tactic(auto, using(crate::proofs::OpenLaws::silent_is))]
 pub fn is_silent(f: Floor, m: &[u16]) -> bool
     requires { (f.carriers ≤ 8) × (state_size f.carriers ≤ length m.now) }
     ensures { result ≡ silent_in (bare f) m.now }
 {
-    if !plans_shut(f, m) {
-        return false;
-    }
-    deliveries_shut(f, m)
+    plans_shut(f, m) && deliveries_shut(f, m)
 }

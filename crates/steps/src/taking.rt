@@ -1,24 +1,23 @@
 // Taking an open step: a plan or a delivery, its answer, and the memory after it.
-ghost use Rattle.std.specs.Prelude.{◌≡◌, true, cond, ◌∷◌, ◌≤◌, ◌<◌, length};
-ghost use Rattle.search.specs.Answers.{answered, Answers};
+ghost use Rattle.std.specs.Prelude.{◌≡◌, true, ◌∷◌, ◌≤◌, ◌<◌, length};
+ghost use Rattle.search.specs.Answers.{answer_of};
 ghost use Rattle.reference.specs.Step.{plan};
-ghost use Rattle.reference.specs.Take.{sent, kept};
 ghost use Rattle.encoding.specs.Places.{state_size};
 ghost use Rattle.encoding.specs.Calls.{machine_of};
 ghost use Rattle.encoding.specs.InnerSteps.{news_in, planned_in, delivered_in, best_in, open_in};
-ghost use Rattle.steps.specs.Answers.{step_meant, taken_meant};
+ghost use Rattle.steps.specs.Answers.{step_meant};
 ghost use Rattle.steps.specs.Inner.{bare, Placed, Workable, RowsFor, Did, Took};
 
 use crate::{Step, Taken};
 use floor::Floor;
 use route::Route;
-use search::{Found, Rows};
+use search::Rows;
 
 // The best answer of carrier i to its views; `free` is made of the floor and its walls once.
-fn find(f: Floor, walls: &[u16], free: Rows, m: &[u16], i: usize) -> Found
+fn find(f: Floor, walls: &[u16], free: Rows, m: &[u16], i: usize) -> Option<Route>
     requires i_lt_carriers { i < f.carriers }
     requires workable { Workable f walls.now free m.now }
-    ensures { Answers result (answered (best_in (machine_of f walls.now) m.now i)) }
+    ensures { answer_of result ≡ best_in (machine_of f walls.now) m.now i }
 {
     let n = f.carriers as usize;
     let a = state::views_start(n, i);
@@ -27,6 +26,7 @@ fn find(f: Floor, walls: &[u16], free: Rows, m: &[u16], i: usize) -> Found
 }
 
 // Carrier i plans an answer: whether it is news, which is then sent.
+#[tactic(auto, unfolding(encoding::specs::Places::state_size, encoding::specs::InnerSteps::planned_in))]
 fn record_plan(m: &mut [u16], n: usize, i: usize, tag: u16, cells: Route) -> bool
     requires { (i < n) × (n ≤ 8) × (state_size n ≤ length m.old) }
     ensures answers { result ≡ news_in m.old i (tag ∷ cells) }
@@ -36,32 +36,22 @@ fn record_plan(m: &mut [u16], n: usize, i: usize, tag: u16, cells: Route) -> boo
     state::set_planned(m, i, tag, cells);
     if news {
         state::send(m, n, i, tag, cells);
-        return true;
     }
-    false
+    news
 }
 
-// The answer of a plan: sent if it is news, otherwise kept.
-fn sent_or_kept(news: bool) -> Taken
-    ensures { taken_meant result ≡ cond news sent kept }
-{
-    if news {
-        return Taken::Sent;
-    }
-    Taken::Kept
-}
-
-// Carrier i plans.
+// Carrier i plans: its answer is sent if it is news, otherwise kept.
 fn plan_now(f: Floor, walls: &[u16], free: Rows, m: &mut [u16], i: usize) -> Taken
     requires i_lt_carriers { i < f.carriers }
     requires workable { Workable f walls.now free m.old }
     ensures { Did (machine_of f walls.now) m.old (plan i) result m.new }
 {
-    let found = find(f, walls, free, m, i);
-    let outcome = found.outcome;
-    let cells = found.route;
-    let tag = planner::tag_of(outcome);
-    sent_or_kept(record_plan(m, f.carriers as usize, i, tag, cells))
+    let (tag, cells) = planner::told(find(f, walls, free, m, i));
+    if record_plan(m, f.carriers as usize, i, tag, cells) {
+        Taken::Sent
+    } else {
+        Taken::Kept
+    }
 }
 
 // The oldest message from carrier j to carrier i is delivered.
@@ -78,6 +68,7 @@ fn deliver_now(m: &mut [u16], n: usize, j: usize, i: usize)
 }
 
 // The free cells where a step needs them: a plan does, a delivery does not.
+#[tactic(auto, unfolding(crate::specs::Answers::step_meant, crate::specs::Inner::RowsFor))]
 pub fn rows_for(f: Floor, walls: &[u16], x: Step) -> Rows
     requires { ((1 ≤ f.width) × (f.width ≤ 32) × (f.height ≤ 32)) × (f.walls ≤ length walls.now) }
     ensures { RowsFor f walls.now result (step_meant x) }

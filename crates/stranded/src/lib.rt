@@ -51,10 +51,8 @@ fn put_carriers(f: Floor, walls: &[u16], own: [u16; TEAM], out: &mut [u8]) -> us
 {
     let n = f.carriers;
     let mut at: usize = 0;
-    let mut i: u16 = 0;
-    while i < n {
+    for i in 0..n {
         at = put_carrier(f, walls, own, i, out, at);
-        i += 1;
     }
     at
 }
@@ -90,10 +88,8 @@ fn places(f: Floor, own: [u16; TEAM]) -> Places
 {
     let n = f.carriers as usize;
     let mut places = [65535u16; 8];
-    let mut k: usize = 0;
-    while k < n {
+    for k in 0..n {
         places[k] = place(f, own, k);
-        k += 1;
     }
     places
 }

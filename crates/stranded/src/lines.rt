@@ -12,7 +12,7 @@ fn put_name(set: u16, j: usize, out: &mut [u8], at: usize) -> usize
     ensures { PutAt (name_of set j) out.old at out.new result }
 {
     if bitrows::has(&[set as u32], 0, j) {
-        return put_bytes(out, at, &[32, 49 + j as u8]);
+        return put_bytes(out, at, &[b' ', b'1' + j as u8]);
     }
     at
 }
@@ -23,10 +23,8 @@ fn put_names(set: u16, out: &mut [u8], at: usize) -> usize
     ensures { PutAt (lines_of (name_of set) 8) out.old at out.new result }
 {
     let mut end = at;
-    let mut j: usize = 0;
-    while j < 8 {
+    for j in 0..8 {
         end = put_name(set, j, out, end);
-        j += 1;
     }
     end
 }
@@ -49,7 +47,7 @@ pub fn put_shut(i: usize, set: u16, out: &mut [u8], at: usize) -> usize
     ensures { PutAt (shut_line i set) out.old at out.new result }
 {
     let a = put_bytes(out, at, b"carrier ");
-    let b = put_bytes(out, a, &[49 + i as u8]);
+    let b = put_bytes(out, a, &[b'1' + i as u8]);
     let c = put_bytes(out, b, b" is shut in by");
     put_by(set, out, c)
 }

@@ -1,53 +1,27 @@
 // A line of the script: where its numbers stand, and what they are. A text that is handed about is the script from its line on.
-ghost use Rattle.std.specs.Prelude.{◌<◌};
-
-use crate::bytes::{byte, part};
 use crate::memory;
-
-// A byte as a size.
-fn wide(byte: u8) -> usize
-    ensures { result < 256 }
-{
-    byte as usize
-}
-
-// Whether a byte is a digit.
-fn is_digit(byte: u8) -> bool {
-    if byte < 48 {
-        return false;
-    }
-    byte < 58
-}
+use crate::memory::{at, part, plus};
 
 // Whether a run of digits, or of other bytes, goes on with this byte; a newline ends both.
 fn goes_on(byte: u8, digits: bool) -> bool {
-    if byte == 10 {
-        return false;
-    }
-    is_digit(byte) == digits
+    byte != b'\n' && byte.is_ascii_digit() == digits
 }
 
 // The end of a run of digits, or of other bytes, that begins at a place.
 fn skip(text: &[u8], from: usize, digits: bool) -> usize {
-    let mut i = from;
-    while i < text.len() {
-        if !goes_on(text[i], digits) {
-            return i;
-        }
-        i += 1;
-    }
-    i
+    let Some(rest) = text.get(from..) else {
+        return from;
+    };
+    let run = rest.iter().position(|b| !goes_on(*b, digits));
+    from + run.unwrap_or(rest.len())
 }
 
 // The place of number k, from 0, of a line, or its end where it has fewer.
 fn place(text: &[u8], k: usize) -> usize {
-    let mut i = skip(text, 0, false);
-    let mut n: usize = 0;
-    while n < k {
-        i = skip(text, skip(text, i, true), false);
-        n += 1;
-    }
-    i
+    (0..k).fold(
+        skip(text, 0, false),
+        |i, _| skip(text, skip(text, i, true), false),
+    )
 }
 
 // Where a line ends: none has 1,000 numbers.
@@ -58,26 +32,17 @@ pub fn end(text: &[u8]) -> usize {
 // A number with one more digit.
 fn longer(x: usize, digit: u8) -> usize {
     if x < 100000 {
-        if 48 < digit {
-            return 10 * x + wide(digit - 48);
-        }
-        return 10 * x;
+        10 * x + usize::from(digit.saturating_sub(b'0'))
+    } else {
+        x
     }
-    x
 }
 
 // The number that a run of digits says.
 fn value(text: &[u8], from: usize) -> usize {
-    let mut x: usize = 0;
-    let mut i = from;
-    while i < text.len() {
-        if !is_digit(text[i]) {
-            return x;
-        }
-        x = longer(x, text[i]);
-        i += 1;
-    }
-    x
+    let rest = text.get(from..).unwrap_or(&[]);
+    let digits = rest.iter().take_while(|b| b.is_ascii_digit());
+    digits.fold(0, |x, b| longer(x, *b))
 }
 
 // Number k of a line, 0 where it has fewer.
@@ -87,33 +52,34 @@ pub fn field(text: &[u8], k: usize) -> usize {
 
 // Whether a line has a number k.
 fn has(text: &[u8], k: usize) -> bool {
-    is_digit(byte(text, place(text, k)))
+    at(text, place(text, k)).is_ascii_digit()
 }
 
 // Whether a colon follows number k of a line.
 fn is_named(text: &[u8], k: usize) -> bool {
-    byte(text, skip(text, place(text, k), true)) == 58
+    at(text, skip(text, place(text, k), true)) == b':'
 }
 
 // Writes the numbers of a line, from number k on, into a memory. One with a colon behind it is the place of the next, which the others
 // follow. Answers the place behind the last.
 pub fn write(text: &[u8], k: usize, m: &mut [u16]) -> usize {
-    let mut to: usize = 0;
-    let mut i = k;
-    while i < 900 {
+    let mut to = 0;
+    for i in k..900 {
         if !has(text, i) {
-            return to;
+            break;
         }
         let v = field(text, i);
-        let named = is_named(text, i);
-        memory::put(m, memory::choose(named, 65535, to), memory::narrow(v));
-        to = memory::choose(named, v, memory::plus(to, 1));
-        i += 1;
+        if is_named(text, i) {
+            to = v;
+        } else {
+            memory::put(m, to, memory::narrow(v));
+            to = plus(to, 1);
+        }
     }
     to
 }
 
 // So many bytes of the script, from a place of the line under this one on.
 pub fn under(text: &[u8], from: usize, n: usize) -> &[u8] {
-    part(text, memory::plus(memory::plus(end(text), 1), from), n)
+    part(text, plus(plus(end(text), 1), from), n)
 }

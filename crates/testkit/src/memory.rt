@@ -1,8 +1,24 @@
-// Looking at memory, number by number. Every function answers for any place.
+// Looking at memory, number by number, and at texts, byte by byte. Every function answers for any place.
 ghost use Rattle.std.specs.Prelude.{◌≡◌, ◌<◌, length};
+
+use crate::bytes::BLANK;
 
 // What lent memory holds before anything is written into it.
 pub const LENT: u16 = 777;
+
+// What a memory or a text is made of.
+pub trait Item: Copy + PartialEq {
+    // What is read past the end.
+    const PAST: Self;
+}
+
+impl Item for u8 {
+    const PAST: u8 = BLANK;
+}
+
+impl Item for u16 {
+    const PAST: u16 = 65535;
+}
 
 // Room for the largest state, 9,666 numbers, and some more.
 pub fn buffer() -> [u16; 9700]
@@ -18,64 +34,45 @@ pub fn zeros() -> [u16; 520]
     [0; 520]
 }
 
-// The number at a place, 65,535 past the end.
-pub fn at(m: &[u16], i: usize) -> u16 {
-    if i < m.len() {
-        return m[i];
-    }
-    65535
+// The item at a place: past the end 65,535, and of a text a blank.
+pub fn at<T: Item>(m: &[T], i: usize) -> T {
+    m.get(i).copied().unwrap_or(T::PAST)
 }
 
-// The same as a size.
+// The number at a place as a size.
 pub fn wide_at(m: &[u16], i: usize) -> usize
     ensures { result < 65536 }
 {
-    wide(at(m, i))
+    usize::from(at(m, i))
 }
 
-// So many numbers of a memory from a place on, none where it has fewer.
-pub fn part(m: &[u16], from: usize, n: usize) -> &[u16] {
-    let to = plus(from, n);
-    if m.len() < to {
-        return &m[..0];
-    }
-    if to < from {
-        return &m[..0];
-    }
-    &m[from..to]
+// So many items from a place on, none where there are fewer.
+pub fn part<T>(m: &[T], from: usize, n: usize) -> &[T] {
+    m.get(from..plus(from, n)).unwrap_or(&[])
 }
 
-// The first n numbers of a memory, none where it has fewer.
-pub fn front(m: &mut [u16], n: usize) -> &mut [u16] {
-    if m.len() < n {
-        return &mut m[..0];
-    }
-    &mut m[..n]
-}
-
-// A number as a size.
-pub fn wide(x: u16) -> usize
-    ensures { result < 65536 }
-{
-    x as usize
+// The first n items, none where there are fewer.
+pub fn front<T>(m: &mut [T], n: usize) -> &mut [T] {
+    m.get_mut(..n).unwrap_or(&mut [])
 }
 
 // A size as a number, 65,535 where it is none.
 pub fn narrow(x: usize) -> u16 {
-    if x < 65536 {
-        return x as u16;
-    }
-    65535
+    u16::try_from(x).unwrap_or(65535)
 }
 
 // A sum of places, 131,072 where one of them is no place of these memories or of the script, which has at most 131,072 bytes.
 pub fn plus(a: usize, b: usize) -> usize {
-    if a < 131072 {
-        if b < 131072 {
-            return a + b;
-        }
+    if a < 131072 && b < 131072 {
+        a + b
+    } else {
+        131072
     }
-    131072
+}
+
+// Place n of those of which the first is a place and each is a stride behind the one before.
+pub fn strided(from: usize, stride: usize, n: usize) -> usize {
+    from.saturating_add(stride.saturating_mul(n))
 }
 
 // Writes x at a place, where there is one.
@@ -85,76 +82,24 @@ pub fn put(m: &mut [u16], i: usize, x: u16) {
     }
 }
 
-// Writes x at the first n places.
-pub fn fill(m: &mut [u16], n: usize, x: u16) {
-    let mut i: usize = 0;
-    while i < n {
-        put(m, i, x);
-        i += 1;
+// Writes the numbers of one memory into another, which is filled: past the end of the first there is 65,535.
+pub fn copy(from: &[u16], to: &mut [u16]) {
+    for (i, x) in to.iter_mut().enumerate() {
+        *x = at(from, i);
     }
 }
 
-// Writes the first n numbers of one memory into another.
-pub fn copy(from: &[u16], to: &mut [u16], n: usize) {
-    let mut i: usize = 0;
-    while i < n {
-        put(to, i, at(from, i));
-        i += 1;
-    }
-}
-
-// Whether n numbers from place i of a on are those from place j of ys on.
+// Whether n numbers from place i of xs on are those from place j of ys on.
 pub fn same_part(xs: &[u16], i: usize, ys: &[u16], j: usize, n: usize) -> bool {
-    let mut t: usize = 0;
-    while t < n {
-        if at(xs, plus(i, t)) != at(ys, plus(j, t)) {
-            return false;
-        }
-        t += 1;
-    }
-    true
+    (0..n).all(|t| at(xs, plus(i, t)) == at(ys, plus(j, t)))
 }
 
-// Whether two memories have the same numbers, as far as the first goes.
-pub fn same(xs: &[u16], ys: &[u16]) -> bool {
-    same_part(xs, 0, ys, 0, xs.len())
+// Whether two memories have the same items, as far as the first goes.
+pub fn same<T: Item>(xs: &[T], ys: &[T]) -> bool {
+    xs.iter().enumerate().all(|(i, x)| *x == at(ys, i))
 }
 
 // Eight numbers of a memory, the first at a place and each a stride behind the one before.
 pub fn eight(m: &[u16], from: usize, stride: usize) -> [u16; 8] {
-    let mut e = [0u16; 8];
-    let mut p = from;
-    let mut n: usize = 0;
-    while n < 8 {
-        put(&mut e, n, at(m, p));
-        p = plus(p, stride);
-        n += 1;
-    }
-    e
-}
-
-// Whether both hold.
-pub fn both(x: bool, y: bool) -> bool {
-    if x {
-        return y;
-    }
-    false
-}
-
-// The first where it holds, otherwise the second.
-pub fn choose(holds: bool, a: usize, b: usize) -> usize {
-    if holds {
-        return a;
-    }
-    b
-}
-
-// One more where it holds.
-pub fn count(n: usize, holds: bool) -> usize {
-    if holds {
-        if n < 1000000 {
-            return n + 1;
-        }
-    }
-    n
+    [0, 1, 2, 3, 4, 5, 6, 7].map(|n| at(m, strided(from, stride, n)))
 }

@@ -1,35 +1,14 @@
 // Looking at answers and states in lent memory: where their numbers stand, written out for each number of carriers.
-use crate::memory;
-use crate::memory::both;
+use crate::memory::{at, same_part, strided, wide_at};
 
 // Whether the records of n carriers in a memory, from a place on and each a stride behind the one before, are these answers.
 pub fn answers_are(m: &[u16], from: usize, stride: usize, n: usize, answers: &[u16]) -> bool {
-    let mut p = from;
-    let mut place: usize = 0;
-    let mut i: usize = 0;
-    while i < n {
-        if !memory::same_part(m, p, answers, place, 65) {
-            return false;
-        }
-        p = memory::plus(p, stride);
-        place = memory::plus(place, 65);
-        i += 1;
-    }
-    true
+    (0..n).all(|i| same_part(m, strided(from, stride, i), answers, strided(0, 65, i), 65))
 }
 
 // Whether n numbers, the first at a place and each a stride behind the one before, are all 0.
 fn are_zero(m: &[u16], from: usize, stride: usize, n: usize) -> bool {
-    let mut p = from;
-    let mut i: usize = 0;
-    while i < n {
-        if memory::at(m, p) != 0 {
-            return false;
-        }
-        p = memory::plus(p, stride);
-        i += 1;
-    }
-    true
+    (0..n).all(|i| at(m, strided(from, stride, i)) == 0)
 }
 
 // The pairs of n carriers.
@@ -62,13 +41,10 @@ fn first_channel(n: usize) -> usize {
 
 // Whether nobody is due, from 3 on, and every channel, of 261 numbers, is empty.
 pub fn at_rest(m: &[u16], n: usize) -> bool {
-    both(
-        are_zero(m, 3, 67, n),
-        are_zero(m, first_channel(n), 261, pairs(n)),
-    )
+    are_zero(m, 3, 67, n) && are_zero(m, first_channel(n), 261, pairs(n))
 }
 
 // The taken count in memory: thousands and rest.
 pub fn taken_in(m: &[u16]) -> usize {
-    1000 * memory::wide_at(m, 0) + memory::wide_at(m, 1)
+    1000 * wide_at(m, 0) + wide_at(m, 1)
 }

@@ -2,7 +2,6 @@
 ghost use Rattle.std.specs.Prelude.{OnOk, ◌∷◌, decimal};
 ghost use Rattle.std.specs.Io.KnownBytes.{Appends};
 
-use crate::memory;
 use std::io;
 use std::io::Write;
 
@@ -20,12 +19,10 @@ pub fn number<W: Write>(out: &mut W, n: usize) -> io::Result<()>
     write!(out, " {n}")
 }
 
-// So many numbers of a memory, from its front on.
-pub fn numbers<W: Write>(out: &mut W, m: &[u16], n: usize) -> io::Result<()> {
-    let mut i: usize = 0;
-    while i < n {
-        number(out, memory::wide_at(m, i))?;
-        i += 1;
+// The numbers of a memory.
+pub fn numbers<W: Write>(out: &mut W, m: &[u16]) -> io::Result<()> {
+    for x in m {
+        number(out, usize::from(*x))?;
     }
     Ok(())
 }

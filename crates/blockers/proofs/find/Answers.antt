@@ -3,7 +3,7 @@
 use Prim.Native.Nat.{◌-◌, ◌<◌}
 use native.Mathlib.Omega.{arith}
 use Rattle.floor.proofs.LimitsLaws.{check_tells}
-use Rattle.blockers.specs.Entry.{blocked_outcome}
+use Rattle.floor.specs.Answers.{outcome_by}
 use Rattle.blockers.proofs.EntryLaws.{carrier_granted, own_front, has_route, has_none, route_there, shut_in_lem}
 use Rattle.blockers.proofs.find.Goals as goal
 
@@ -21,7 +21,7 @@ bounds-own-at c =
     omega (arith, g.listed, (check_tells _ _ g.checked).bounds.carriers)
 
 pub returns-then-own-at-eq2 : goal.returns-then-own-at-eq2
-unfolding blocked_outcome
+unfolding outcome_by
 returns-then-own-at-eq2 c =
     let g = carrier_granted _ _ _ _ c.requires in
     let own = c.plan_own-own.ensures in
@@ -44,7 +44,7 @@ set_for-requires c =
     (g.checked, omega (arith, g.listed), c.plan_own-own.ensures)
 
 pub returns : goal.returns
-unfolding blocked_outcome
+unfolding outcome_by
 returns c =
     let g = carrier_granted _ _ _ _ c.requires in
     let own = c.plan_own-own.ensures in

@@ -1,14 +1,12 @@
 -- `blockers::request` meets its contract: a chain of two checks.
-use Rattle.floor.proofs.AnswersLaws.{then_next, ends_at}
+use Rattle.floor.proofs.AnswersLaws.{chain}
 use Rattle.blockers.specs.Entry.{carrier_verdict}
 use Rattle.blockers.proofs.request.Goals as goal
 
-pub returns-in_default : goal.returns-in_default
+pub returns-in_err-request : goal.returns-in_err-request
 unfolding carrier_verdict
-returns-in_default c =
-    ends_at _ c.request-planned.ensures c.in_default.is
+returns-in_err-request c = search (chain, c.in_err-request.ensures) depth 7
 
 pub returns : goal.returns
 unfolding carrier_verdict
-returns c =
-    then_next c.request-planned.ensures c.in-Passed.is c.listed.ensures
+returns c = search (chain, c.in_ok-request.ensures) depth 7

@@ -9,11 +9,11 @@ pub loop-n-preserved : goal.loop-n-preserved
 loop-n-preserved g c =
     let n = c.loop-n.n in
     let buf = c.loop-n.buf in
-    let part = c.read_some-part.new.buf in
+    let part = c.read_some.new.buf in
     record {
       long = search rules;
       fits = search rules;
       taken =
-          subst (Consumes _ _) (front_filled n (length buf - n) c.in-Moved.more buf part c.loop-n.invariant.fits c.in-Moved.ensures.within.1)
-          (Consumes-trans _ _ _ _ _ c.loop-n.invariant.taken c.in-Moved.ensures.bytes.0);
+          subst (Consumes _ _) (front_filled n (length buf - n) c.in_ok-more.more buf part c.loop-n.invariant.fits c.in_ok-more.ensures.within.1)
+          (Consumes-trans _ _ _ _ _ c.loop-n.invariant.taken c.in_ok-more.ensures.bytes.0);
     }

@@ -1,13 +1,17 @@
 -- `drawing::cell_mark` meets its contract: a wall's mark, or the carriers'.
+use mathlib.Core.Path.{◌∙◌}
+use Rattle.floor.proofs.AmongLaws.{among_any}
 use Rattle.drawing.specs.Drawing.{cell_mark}
 use Rattle.drawing.proofs.cell_mark.Goals as goal
 
-pub returns-then-is_wall : goal.returns-then-is_wall
+pub returns-then-contains : goal.returns-then-contains
 unfolding cell_mark
-returns-then-is_wall c =
-    rw (← c.is_wall.ensures, c.if-is_wall.true)
+returns-then-contains c =
+    let e = c.if-contains.ensures.value ∙ among_any _ _ _ c.requires in
+    rw (← e)
 
 pub returns : goal.returns
 unfolding cell_mark
 returns c =
-    rw (← c.is_wall.ensures, c.if-is_wall.false) c.carrier_mark.ensures
+    let e = c.if-contains.ensures.value ∙ among_any _ _ _ c.requires in
+    rw (← e) c.carrier_mark.ensures

@@ -10,30 +10,29 @@ overflow_mul-n c =
 
 pub loop-k-init : goal.loop-k-init
 loop-k-init c =
-    (search rules, search rules, grid_low _ _ c.requires.0 c.requires.1, bytes_start _ _ _ _)
+    (search rules, grid_low _ _ c.requires.0 c.requires.1, bytes_start _ _ _ _)
 
 pub bounds-out-k : goal.bounds-out-k
 bounds-out-k c =
     let l = c.loop-k.invariant in
-    omega (arith, c.requires.3, bytes_keep _ _ _ _ _ c.loop-k.k l.3 (omega (arith, c.requires.3)))
+    omega (arith, c.requires.3, bytes_keep _ _ _ _ _ c.loop-k.k l.2 (omega (arith, c.requires.3)))
 
 pub loop-k-preserved : goal.loop-k-preserved
 loop-k-preserved c =
     let l = c.loop-k.invariant in (
-      search rules,
+      l.0,
       l.1,
-      l.2,
-      bytes_more _ _ _ _ _ c.loop-k.k _ l.3 (omega (arith, c.requires.3)) c.byte_at.ensures,
+      bytes_more _ _ _ _ _ c.loop-k.k _ l.2 (omega (arith, c.requires.3)) c.byte_at.ensures,
     )
 
 pub shape_of-out : goal.shape_of-out
 shape_of-out c =
     let l = c.loop-k.invariant in
-    bytes_keep _ _ _ _ _ c.loop-k.k l.3 (omega (arith, c.requires.3))
+    bytes_keep _ _ _ _ _ c.loop-k.k l.2 (omega (arith, c.requires.3))
 
 pub returns : goal.returns
 returns c =
     let l = c.loop-k.invariant in record {
-      puts = bytes_end _ _ _ _ _ _ _ l.3 l.0 c.loop-k-test.false l.1;
-      size = l.1;
+      puts = bytes_end _ _ _ _ _ _ _ l.2 (omega arith) c.loop-k-test.false l.0;
+      size = l.0;
     }

@@ -1,4 +1,4 @@
-use Prim.Native.Nat.{◌+◌, ◌-◌, ◌*◌, ◌≤◌}
+use Prim.Native.Nat.{◌+◌, ◌*◌, ◌≤◌}
 use mathlib.Core.Path.{◌≡◌}
 use Rattle.laws.specs.Memory.{put}
 use Rattle.drawing.specs.Drawing.{drawn_bytes}
@@ -6,7 +6,4 @@ use Rattle.drawing.proofs.put_floor.Given as goal
 
 abbrev pub invariant-loop-k : goal.invariant-loop-k
 invariant-loop-k l =
-    (l.k ≤ l.n) × (l.n ≡ (l.f.width + 1) * l.f.height) × (l.n ≤ 1056) × (l.out ≡ put l.initial.out 0 (drawn_bytes l.f l.walls l.places l.k))
-
-abbrev pub decreases-loop-k : goal.decreases-loop-k
-decreases-loop-k l = l.n - l.k
+    (l.n ≡ (l.f.width + 1) * l.f.height) × (l.n ≤ 1056) × (l.out ≡ put l.initial.out 0 (drawn_bytes l.f l.walls l.places l.k))

@@ -1,4 +1,4 @@
-use Prim.Native.Nat.{◌-◌, ◌≤◌}
+use Prim.Native.Nat.{◌≤◌}
 use Rattle.sheet.specs.Text.{lines_of}
 use Rattle.reporting.specs.Put.{PutAt}
 use Prim.Native.Nat.{ℕ}
@@ -10,6 +10,3 @@ use Rattle.frames.proofs.put_beats.Given as goal
 abbrev pub invariant-loop-t : goal.invariant-loop-t
 invariant-loop-t l =
     (l.t ≤ l.n) × PutAt (lines_of (λ (u : ℕ). (10 ∷ []) ++ frame_of l.f l.walls (answer_in l.own) u) l.t) l.initial.out l.at l.out l.end
-
-abbrev pub decreases-loop-t : goal.decreases-loop-t
-decreases-loop-t l = l.n - l.t

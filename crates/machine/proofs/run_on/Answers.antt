@@ -1,11 +1,11 @@
--- `machine::run_on` meets its contract: a refusal, or the loop, whose tally decides the end.
-use Rattle.floor.proofs.AnswersLaws.{passes, refuses}
-use Rattle.machine.specs.Answers.{ran_reply, taken_number}
+-- `machine::run_on` meets its contract: the loop, whose tally decides the end.
 use Rattle.steps.proofs.PlacedLaws.{placed_sized, placed_grid}
 use Rattle.machine.proofs.VerdictLaws.{state_tells, names_are}
-use Rattle.machine.proofs.EntryLaws.{run_refused, run_taken}
-use Rattle.machine.proofs.RunLaws.{told_within}
-use mathlib.Core.Path.{sym, ◌∙◌}
+use Rattle.machine.proofs.EntryLaws.{run_taken}
+use Rattle.laws.specs.Verdict.{value}
+use Rattle.reference.specs.Ending.{RunEnding}
+use Rattle.reference.specs.Calls.{ran}
+use mathlib.Core.Path.{sym, ◌∙◌, ap}
 use native.Mathlib.Omega.{arith}
 use Rattle.machine.proofs.run_on.Goals as goal
 
@@ -18,27 +18,15 @@ pub run_all-tally-requires : goal.run_all-tally-requires
 run_all-tally-requires c =
     record { placed = state_tells _ _ _ c.requires.state_value; free = c.free_rows-free.ensures }
 
-pub ending-requires : goal.ending-requires
-ending-requires c =
+pub how_ended-requires : goal.how_ended-requires
+how_ended-requires c =
     let a = placed_sized (state_tells _ _ _ c.requires.state_value) in
     (a.0, omega (arith, c.run_all-tally.auto.m, a.1))
 
-pub returns-in_default : goal.returns-in_default
-returns-in_default c =
-    let ok = passes c.requires.named_value c.in_default.is in
-    let t = c.run_all-tally.ensures in
-    let made = run_taken _ _ _ c.requires.state_value _ _ _ _ _ (sym ok ∙ names_are _ _ _) t in record {
-      answers = c.ending.ensures ∙ made.0;
-      stores = made.1;
-      within = told_within _ _ _ _ c.ending.ensures t.within;
-    }
-
 pub returns : goal.returns
-unfolding ran_reply taken_number
 returns c =
-    let no = refuses c.requires.named_value c.in-Refused.is in
-    let kept = run_refused _ _ _ c.requires.state_value _ _ (sym no ∙ names_are _ _ _) in record {
-      answers = kept.0;
-      stores = kept.1;
-      within = omega arith;
+    let made = run_taken _ _ _ c.requires.state_value _ _ _ _ _ (sym c.requires.named_value ∙ names_are _ _ _) c.run_all-tally.ensures in record {
+      answers = ap (λ (x : RunEnding). value (ran c.run_all-tally.result.taken x)) c.how_ended.ensures ∙ made.0;
+      stores = made.1;
+      within = c.run_all-tally.ensures.within;
     }

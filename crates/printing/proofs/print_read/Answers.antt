@@ -1,6 +1,4 @@
 -- `printing::print_read` meets its contract: memory too short is as it was; otherwise the text is put.
-use mathlib.Core.Path.{sym}
-use lib.Seq.{length-take-le}
 use Rattle.floor.specs.Answers.{outcome_by}
 use Rattle.floor.proofs.AnswersLaws.{met_passed}
 use Rattle.floor.proofs.LimitsLaws.{length_passed}
@@ -16,9 +14,6 @@ returns-in_err-check_length c =
 pub put_routes-requires-clause-f_in_bounds : goal.put_routes-requires-clause-f_in_bounds
 put_routes-requires-clause-f_in_bounds c =
     length_passed _ _ (met_passed (rw c.text_length.ensures at c.in_ok-check_length.ensures))
-
-pub slice_bounds-put_routes-end : goal.slice_bounds-put_routes-end
-slice_bounds-put_routes-end c = sym (length-take-le _ _ c.requires.walls_in_bounds)
 
 pub returns : goal.returns
 unfolding outcome_by FloorPut

@@ -1,12 +1,12 @@
--- `records::load` meets its contract: the loop holds that the first t cells are copied.
-use Rattle.records.proofs.LoadLaws.{copy_turn}
+-- `records::load` meets its contract: what is copied is the part.
+use Rattle.laws.specs.Memory.{part}
+use native.Mathlib.Omega.{arith}
+use Prim.Native.Nat.{◌+◌, ◌-◌}
+use mathlib.Core.Path.{◌≡◌}
 use Rattle.records.proofs.load.Goals as goal
 
-pub loop-t-init : goal.loop-t-init
-loop-t-init c = search copy_turn
-
-pub loop-t-preserved : goal.loop-t-preserved
-loop-t-preserved c = search copy_turn
-
 pub returns : goal.returns
-returns c = search copy_turn
+unfolding part
+returns c =
+    let n : c.args.at + 64 - c.args.at ≡ 64 = omega arith in
+    rw n at c.copy_from_slice.ensures.after

@@ -1,4 +1,4 @@
-use Prim.Native.Nat.{◌-◌, ◌≤◌}
+use Prim.Native.Nat.{◌≤◌}
 use Rattle.sheet.specs.Text.{lines_of}
 use Rattle.reporting.specs.Put.{PutAt}
 use Rattle.stranded.specs.Text.{carrier_text}
@@ -6,6 +6,3 @@ use Rattle.stranded.proofs.put_carriers.Given as goal
 
 abbrev pub invariant-loop-i : goal.invariant-loop-i
 invariant-loop-i l = (l.i ≤ l.n) × PutAt (lines_of (carrier_text l.f l.walls) l.i) l.initial.out 0 l.out l.at
-
-abbrev pub decreases-loop-i : goal.decreases-loop-i
-decreases-loop-i l = l.n - l.i

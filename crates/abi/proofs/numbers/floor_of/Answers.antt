@@ -5,5 +5,4 @@ use Rattle.abi.proofs.numbers.floor_of.Goals as goal
 
 pub returns : goal.returns
 unfolding floor_of
-returns c =
-    rw (c.cells.ensures, c.cells-2.ensures, c.docks.ensures) refl
+returns c = rw (c.taken.ensures, c.taken-2.ensures, c.taken-3.ensures) refl

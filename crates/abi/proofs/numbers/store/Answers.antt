@@ -1,26 +1,18 @@
 -- `abi::numbers::store` meets its contract: four blocks, one behind the other.
 use Rattle.abi.proofs.RecordLaws.{four_blocks}
 use Rattle.abi.specs.Record.{numbers_of}
-use mathlib.Core.Path.{refl}
-use native.Mathlib.Omega.{arith}
+use Rattle.laws.specs.Memory.{put}
+use borrow.Author.Rules.{rules}
+use mathlib.Core.List.{[], ◌∷◌}
+use lib.ListN.{length}
+use mathlib.Core.Path.{◌≡◌, refl}
 use Rattle.abi.proofs.numbers.store.Goals as goal
 
-pub put_cells-requires : goal.put_cells-requires
-put_cells-requires c =
-    omega (arith, c.copy.auto.out, c.requires)
-
-pub put_cells-requires-2 : goal.put_cells-requires-2
-put_cells-requires-2 c =
-    omega (arith, c.copy.auto.out, c.put_cells.auto.out, c.requires)
-
-pub put_docks-requires : goal.put_docks-requires
-put_docks-requires c =
-    omega (arith, c.copy.auto.out, c.put_cells.auto.out, c.put_cells-2.auto.out, c.requires)
-
 pub returns : goal.returns
-unfolding numbers_of
+unfolding numbers_of put
 returns c =
-    let s = c.put_cells.ensures in
-    let n = c.put_cells-2.ensures in
-    let d = c.put_docks.ensures in
-    four_blocks _ _ _ _ _ _ _ _ _ c.copy.ensures s.0 n.0 d.0 refl s.1 n.1 d.1 c.requires
+    let starts : length c.args.f.starts ≡ 8 = search rules in
+    let counts : length c.args.f.counts ≡ 8 = search rules in
+    let docks : length c.args.f.docks ≡ 32 = search rules in
+    let f = c.args.f in
+    four_blocks _ _ _ _ _ (f.width ∷ f.height ∷ f.horizon ∷ f.depth ∷ f.carriers ∷ f.walls ∷ []) f.starts f.counts f.docks c.copy.ensures c.copy-2.ensures c.copy-3.ensures c.copy-4.ensures refl starts counts docks c.requires

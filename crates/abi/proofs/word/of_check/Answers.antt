@@ -4,10 +4,10 @@ use Rattle.floor.specs.Answers.{verdict_of}
 use Rattle.abi.specs.Word.{word_of, of_number, map_outcome}
 use Rattle.abi.proofs.word.of_check.Goals as goal
 
-pub returns-in-Passed : goal.returns-in-Passed
+pub returns-in-Ok : goal.returns-in-Ok
 unfolding of_number map_outcome verdict_of word_of ◌gives◌
-returns-in-Passed c = cc
+returns-in-Ok c = cc
 
-pub returns-in-Refused : goal.returns-in-Refused
+pub returns-in-Err : goal.returns-in-Err
 unfolding of_number map_outcome verdict_of word_of ◌gives◌
-returns-in-Refused c = cc
+returns-in-Err c = cc

@@ -1,23 +1,22 @@
 -- `blockers::leave::leave_out` meets its contract: the carriers passed were tried.
 use mathlib.Core.Path.{refl, ◌∙◌}
 use Rattle.blockers.proofs.RecordLaws.{left_start, left_more, left_end, still_searchable}
-use borrow.Author.Rules.{rules}
+use native.Mathlib.Omega.{arith}
 use Rattle.blockers.proofs.leave.leave_out.Goals as goal
 
 pub loop-j-init : goal.loop-j-init
-loop-j-init c = (search rules, refl, left_start _ _)
+loop-j-init c = (refl, left_start _ _)
 
 pub try_without-requires : goal.try_without-requires
 try_without-requires c =
-    (c.loop-j-test.true, still_searchable _ c.requires c.loop-j.invariant.1)
+    (c.loop-j-test.true, still_searchable _ c.requires c.loop-j.invariant.0)
 
 pub loop-j-preserved : goal.loop-j-preserved
 loop-j-preserved c = (
-  search rules,
-  c.try_without.auto.views ∙ c.loop-j.invariant.1,
-  left_more _ _ _ _ _ c.loop-j.invariant.2 c.try_without.ensures,
+  c.try_without.auto.views ∙ c.loop-j.invariant.0,
+  left_more _ _ _ _ _ c.loop-j.invariant.1 c.try_without.ensures,
 )
 
 pub returns : goal.returns
 returns c =
-    left_end _ _ _ _ _ c.loop-j.invariant.0 c.loop-j-test.false c.loop-j.invariant.2
+    left_end _ _ _ _ _ (omega arith) c.loop-j-test.false c.loop-j.invariant.1

@@ -7,6 +7,3 @@ use Rattle.blockers.proofs.leave.set_of.Given as goal
 
 abbrev pub invariant-loop-j : goal.invariant-loop-j
 invariant-loop-j l = (l.j ≤ l.k) × (l.set ≡ set_of (drop l.j (records l.views l.k)))
-
-abbrev pub decreases-loop-j : goal.decreases-loop-j
-decreases-loop-j l = l.j

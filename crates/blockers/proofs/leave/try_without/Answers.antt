@@ -6,19 +6,19 @@ use lib.ListN.{length-set}
 use Rattle.blockers.proofs.RecordLaws.{stays_out, put_back}
 use Rattle.blockers.proofs.leave.try_without.Goals as goal
 
-pub bounds-views-at-then-tag_of-eq2 : goal.bounds-views-at-then-tag_of-eq2
-bounds-views-at-then-tag_of-eq2 c =
+pub bounds-views-at-then-is_some : goal.bounds-views-at-then-is_some
+bounds-views-at-then-is_some c =
     let p = c.requires in
     omega (arith, p.0, p.1.lent, length-set c.args.views.now (65 * c.args.j) 0)
 
-pub returns-then-tag_of-eq2 : goal.returns-then-tag_of-eq2
-returns-then-tag_of-eq2 c =
+pub returns-then-is_some : goal.returns-then-is_some
+returns-then-is_some c =
     let p = c.requires in
-    put_back _ _ _ _ _ p.0 (omega (arith, p.1.lent)) c.best_route-found.result c.best_route-found.ensures
-    (sym c.tag_of.ensures ∙ c.if-tag_of-eq2.true)
+    put_back _ _ _ _ _ p.0 (omega (arith, p.1.lent)) c.best_route.result c.best_route.ensures
+    (sym c.is_some.ensures ∙ c.if-is_some.true)
 
-pub returns-else-tag_of-eq2 : goal.returns-else-tag_of-eq2
-returns-else-tag_of-eq2 c =
+pub returns-else-is_some : goal.returns-else-is_some
+returns-else-is_some c =
     let p = c.requires in
-    stays_out _ _ _ _ _ p.0 (omega (arith, p.1.lent)) c.best_route-found.result c.best_route-found.ensures
-    (λ e. c.if-tag_of-eq2.false (c.tag_of.ensures ∙ e))
+    stays_out _ _ _ _ _ p.0 (omega (arith, p.1.lent)) c.best_route.result c.best_route.ensures
+    (sym c.is_some.ensures ∙ c.if-is_some.false)

@@ -1,20 +1,13 @@
--- `desk::arguments::all_digits` meets its contract: the loop holds that all bytes so far are digits.
-use Rattle.state.proofs.EachLaws.{each_turn}
-use Rattle.desk.specs.Arguments.{all_digits}
+-- `desk::arguments::all_digits` meets its contract: `all` over the bytes tests each.
+use Rattle.std.proofs.Common.{◌≡◌, rules, tests, true, false}
+use Rattle.std.proofs.lemmas.Iterator.{YieldsList-from_slice, cases_from_all}
+use Rattle.desk.specs.Arguments.{is_digit}
+use Rattle.desk.proofs.ArgumentLaws.{digits_told}
 use Rattle.desk.proofs.arguments.all_digits.Goals as goal
 
-pub loop-k-init : goal.loop-k-init
-unfolding all_digits
-loop-k-init c = search each_turn
-
-pub returns-then-not-is_digit : goal.returns-then-not-is_digit
-unfolding all_digits
-returns-then-not-is_digit c = search each_turn
-
-pub loop-k-preserved : goal.loop-k-preserved
-unfolding all_digits
-loop-k-preserved c = search each_turn
-
 pub returns : goal.returns
-unfolding all_digits
-returns c = search each_turn
+unfolding is_digit
+returns c =
+    digits_told c.args.text.now _
+    (cases_from_all _ _ c.all.result (λ b. is_digit b ≡ true) (λ b. is_digit b ≡ false) c.all.ensures.ran (YieldsList-from_slice c.args.text.now cc)
+    (λ x q k. search (rules, tests)) (λ x q k. search (rules, tests)))

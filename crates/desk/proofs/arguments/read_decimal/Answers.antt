@@ -2,19 +2,14 @@
 use Rattle.std.proofs.Common.{rules}
 use Rattle.desk.proofs.ArgumentLaws.{none_read, other_read, number_read}
 use Rattle.desk.proofs.arguments.read_decimal.Goals as goal
+use Rattle.desk.proofs.arguments.read_decimal.Goals.{then-is_empty-via-then-is_empty, then-is_empty-via-else-is_empty+then-not-all_digits}
 
-pub returns-then-text-eq0 : goal.returns-then-text-eq0
-returns-then-text-eq0 c = none_read _ c.if-text-eq0.true
-
-pub returns-then-not-all_digits : goal.returns-then-not-all_digits
-returns-then-not-all_digits c =
-    other_read _ (search rules)
-
-pub value-requires : goal.value-requires
-value-requires c =
-    search rules
+pub returns-then-is_empty : goal.returns-then-is_empty
+returns-then-is_empty c =
+    elim c.then-is_empty.branch [
+      | then-is_empty-via-then-is_empty w ↦ none_read _ (search rules)
+      | then-is_empty-via-else-is_empty+then-not-all_digits w ↦ other_read _ (search rules)
+    ]
 
 pub returns : goal.returns
-returns c =
-    number_read _ _ c.if-text-eq0.false (search rules)
-    c.value.ensures
+returns c = number_read _ _ (search rules) (search rules) c.value.ensures

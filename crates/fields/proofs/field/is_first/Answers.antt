@@ -1,12 +1,8 @@
--- `fields::field::is_first` meets its contract: two tests in turn.
+-- `fields::field::is_first` meets its contract: a range of bytes.
 use Rattle.floor.specs.Checks.{within}
-use Rattle.laws.proofs.CodeTests.{decides}
+use Rattle.std.proofs.Common.{rules, tests}
 use Rattle.fields.proofs.field.is_first.Goals as goal
-
-pub returns-then-byte-lt49 : goal.returns-then-byte-lt49
-unfolding within
-returns-then-byte-lt49 c = search decides
 
 pub returns : goal.returns
 unfolding within
-returns c = search decides
+returns c = rw (c.contains.ensures.value, c.new.ensures.start, c.new.ensures.end, c.new.ensures.exhausted) (search (rules, tests))

@@ -1,18 +1,9 @@
--- `fields::field::put_field` meets its contract: five stores are a block of five bytes.
-use Rattle.fields.proofs.StoreLaws.{stores, put_columns}
+-- `fields::field::put_field` meets its contract: the five columns are a block.
+use Rattle.fields.proofs.StoreLaws.{put_copied}
+use Rattle.fields.specs.Field.{field_of}
+use mathlib.Core.Path.{refl}
 use Rattle.fields.proofs.field.put_field.Goals as goal
 
-pub bounds-out-at-2 : goal.bounds-out-at-2
-bounds-out-at-2 c = search stores depth 8
-
-pub bounds-out-at-3 : goal.bounds-out-at-3
-bounds-out-at-3 c = search stores depth 8
-
-pub bounds-out-at-4 : goal.bounds-out-at-4
-bounds-out-at-4 c = search stores depth 8
-
-pub bounds-out-at-5 : goal.bounds-out-at-5
-bounds-out-at-5 c = search stores depth 8
-
 pub returns : goal.returns
-returns c = search put_columns
+unfolding field_of
+returns c = put_copied _ _ _ _ 5 (rw (← c.column.ensures, ← c.column-2.ensures, ← c.column-3.ensures, ← c.column-4.ensures, ← c.units.ensures) c.copy_from_slice.ensures.after) refl

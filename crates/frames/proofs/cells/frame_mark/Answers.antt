@@ -14,17 +14,17 @@ pub still_mark-requires : goal.still_mark-requires
 still_mark-requires c =
     c.requires.0.checked
 
-pub returns-then-n-eq0 : goal.returns-then-n-eq0
+pub returns-in-0 : goal.returns-in-0
 unfolding frame_mark
-returns-then-n-eq0 c =
-    c.still_mark.ensures ∙ sym (one_none _ _ _ c.put_carriers-n.ensures c.if-n-eq0.true)
+returns-in-0 c =
+    c.still_mark.ensures ∙ sym (one_none _ _ _ c.put_carriers-n.ensures c.in-0.is)
 
-pub returns-then-n-eq1 : goal.returns-then-n-eq1
+pub returns-in-1 : goal.returns-in-1
 unfolding frame_mark
-returns-then-n-eq1 c =
-    sym (one_only _ _ _ c.put_carriers-n.ensures c.if-n-eq0.false c.if-n-eq1.true)
+returns-in-1 c =
+    sym (one_only _ _ _ c.put_carriers-n.ensures c.in-1.is)
 
-pub returns : goal.returns
+pub returns-in_default : goal.returns-in_default
 unfolding frame_mark
-returns c =
-    sym (one_several _ _ _ c.put_carriers-n.ensures c.if-n-eq0.false c.if-n-eq1.false)
+returns-in_default c =
+    sym (one_several _ _ _ c.put_carriers-n.ensures (omega arith))

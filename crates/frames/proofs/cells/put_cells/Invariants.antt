@@ -1,4 +1,4 @@
-use Prim.Native.Nat.{◌-◌, ◌≤◌}
+use Prim.Native.Nat.{◌≤◌}
 use Rattle.sheet.specs.Text.{lines_of}
 use Rattle.reporting.specs.Put.{PutAt}
 use Prim.Native.Nat.{ℕ}
@@ -10,6 +10,3 @@ use Rattle.frames.proofs.cells.put_cells.Given as goal
 abbrev pub invariant-loop-c : goal.invariant-loop-c
 invariant-loop-c l =
     (l.c ≤ 1024) × PutAt (lines_of (λ (d : ℕ). frame_mark l.f l.walls (answer_in l.own) l.t d ∷ []) l.c) l.initial.out 0 l.out l.at
-
-abbrev pub decreases-loop-c : goal.decreases-loop-c
-decreases-loop-c l = 1024 - l.c

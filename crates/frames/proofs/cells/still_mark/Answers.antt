@@ -23,17 +23,17 @@ pub start_mark-requires : goal.start_mark-requires
 start_mark-requires c =
     (check_tells _ _ c.requires).bounds.carriers.1
 
-pub returns-then-n-eq0 : goal.returns-then-n-eq0
-returns-then-n-eq0 c =
+pub returns-in-0 : goal.returns-in-0
+returns-in-0 c =
     still_else _ _ _ _ (sym c.is_among.ensures ∙ c.if-is_among.false)
-    (one_none _ _ _ c.put_docks-n.ensures c.if-n-eq0.true ∙ sym c.start_mark.ensures)
+    (one_none _ _ _ c.put_docks-n.ensures c.in-0.is ∙ sym c.start_mark.ensures)
 
-pub returns-then-n-eq1 : goal.returns-then-n-eq1
-returns-then-n-eq1 c =
+pub returns-in-1 : goal.returns-in-1
+returns-in-1 c =
     still_else _ _ _ _ (sym c.is_among.ensures ∙ c.if-is_among.false)
-    (one_only _ _ _ c.put_docks-n.ensures c.if-n-eq0.false c.if-n-eq1.true)
+    (one_only _ _ _ c.put_docks-n.ensures c.in-1.is)
 
-pub returns : goal.returns
-returns c =
+pub returns-in_default : goal.returns-in_default
+returns-in_default c =
     still_else _ _ _ _ (sym c.is_among.ensures ∙ c.if-is_among.false)
-    (one_several _ _ _ c.put_docks-n.ensures c.if-n-eq0.false c.if-n-eq1.false)
+    (one_several _ _ _ c.put_docks-n.ensures (omega arith))

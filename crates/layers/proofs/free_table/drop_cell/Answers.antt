@@ -1,5 +1,5 @@
 -- `layers::free_table::drop_cell` meets its contract. The loop's invariant: the cell is out of the beats passed, whichever grid has it at
--- this place. The measure is what is left of the beats. Assumes nothing.
+-- this place. Assumes nothing.
 use native.Mathlib.Omega.{arith}
 use mathlib.Core.Path.{◌≡◌, sym, ap, ◌∙◌}
 use lib.ListN.{length}
@@ -9,7 +9,7 @@ use Rattle.layers.proofs.free_table.drop_cell.Goals as goal
 
 pub loop-t-init : goal.loop-t-init
 loop-t-init c =
-    (omega arith, c.requires.1, c.requires.3.long, λ g grid cell place tidy. cell_none g _ _ _ tidy)
+    (c.requires.3.long, λ g grid cell place tidy. cell_none g _ _ _ tidy)
 
 pub word-requires : goal.word-requires
 word-requires c =
@@ -17,28 +17,26 @@ word-requires c =
 
 pub drop-requires : goal.drop-requires
 drop-requires c =
-    (omega (arith, c.word.ensures.1, c.loop-t.invariant.2), c.place_of-p.ensures.narrow)
+    (omega (arith, c.word.ensures.1, c.loop-t.invariant.0), c.place_of-p.ensures.narrow)
 
 pub loop-t-preserved : goal.loop-t-preserved
 loop-t-preserved c =
     let v = c.loop-t.invariant in
     let e = c.drop.ensures in (
-      omega (arith, v.0),
-      omega (arith, c.loop-t-test.true),
-      ap length e ∙ length_dropped _ _ _ ∙ v.2,
-      λ g grid cell place tidy. cell_more g _ _ _ _ _ _ _ _ grid cell v.0 (omega (arith, c.loop-t-test.true, c.requires.2)) place
-          c.word.ensures.0 (v.3 g grid cell place tidy) e,
+      ap length e ∙ length_dropped _ _ _ ∙ v.0,
+      λ g grid cell place tidy. cell_more g _ _ _ _ _ _ _ _ grid cell (omega arith) (omega (arith, c.loop-t-test.true, c.requires.2)) place
+          c.word.ensures.0 (v.1 g grid cell place tidy) e,
     )
 
 pub shape_of-table : goal.shape_of-table
 shape_of-table c =
-    c.loop-t.invariant.2 ∙ sym c.requires.3.long
+    c.loop-t.invariant.0 ∙ sym c.requires.3.long
 
 pub returns-after-loop-t : goal.returns-after-loop-t
 returns-after-loop-t c =
     let v = c.loop-t.invariant in
-    let e : c.loop-t.t ≡ c.args.end = omega (arith, v.1) in
-    rw e at (v.3 _ c.requires.0 c.if-c-g.true c.place_of-p.ensures c.requires.3)
+    let e : c.loop-t.t ≡ c.args.end = omega arith in
+    rw e at (v.1 _ c.requires.0 c.if-c-g.true c.place_of-p.ensures c.requires.3)
 
 pub returns-else-c-g : goal.returns-else-c-g
 returns-else-c-g c =

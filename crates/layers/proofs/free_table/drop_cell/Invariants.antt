@@ -1,4 +1,4 @@
-use Prim.Native.Nat.{◌-◌, ◌≤◌, ◌<◌}
+use Prim.Native.Nat.{◌<◌}
 use mathlib.Core.Path.{◌≡◌}
 use lib.ListN.{length}
 use Rattle.layers.specs.declared.SearchGrid.{SearchGrid}
@@ -8,8 +8,5 @@ use Rattle.layers.proofs.free_table.drop_cell.Given as goal
 
 abbrev pub invariant-loop-t : goal.invariant-loop-t
 invariant-loop-t l =
-    (l.from ≤ l.t) × (l.t ≤ l.end) × (length l.table ≡ 2049) ×
+    (length l.table ≡ 2049) ×
     ((g : SearchGrid) → Grid g → l.c < g.cells → PlaceOf g l.c l.p → Tidy g l.initial.table → TakenCell g l.from l.t l.c l.initial.table l.table)
-
-abbrev pub decreases-loop-t : goal.decreases-loop-t
-decreases-loop-t l = l.end - l.t

@@ -1,9 +1,8 @@
--- `layers::free_table::make` meets its contract. The loop's invariant: the free table is that of the views passed. The measure is what is
--- left of the views. Assumes nothing.
+-- `layers::free_table::make` meets its contract. The loop's invariant: the free table is that of the views passed.
+-- Assumes nothing.
 use Prim.Native.Nat.{ℕ}
 use native.Mathlib.Omega.{arith}
 use mathlib.Core.Path.{◌≡◌, sym, ap, ◌∙◌}
-use borrow.Author.Rules.{rules}
 use lib.ListN.{length, length-replicate}
 use Rattle.layers.proofs.FreeTableLaws.{free_table_none}
 use Rattle.layers.proofs.free_table.make.Goals as goal
@@ -17,29 +16,23 @@ fill_free-requires c =
     (c.requires.table_value, c.requires.fits.2, omega arith, omega (arith, c.requires.fits.0.short))
 
 pub loop-j-init : goal.loop-j-init
-loop-j-init c = (
-  search rules,
-  free_table_none _ _ _ _ _ c.requires.fits.0.grid.thin c.requires.fits.0.grid.low (omega arith)
-      (omega (arith, c.requires.fits.0.short))
-      c.fill_free.ensures c.requires.fits.1,
-)
+loop-j-init c =
+    free_table_none _ _ _ _ _ c.requires.fits.0.grid.thin c.requires.fits.0.grid.low (omega arith)
+    (omega (arith, c.requires.fits.0.short)) c.fill_free.ensures c.requires.fits.1
 
 pub take_one-requires : goal.take_one-requires
 take_one-requires c =
     let f = c.requires.fits.0 in
-    (f.grid, omega (arith, f.lent), f.short, c.loop-j.invariant.1.tidy)
-
-pub loop-j-smaller : goal.loop-j-smaller
-loop-j-smaller c = omega arith
+    (f.grid, omega (arith, f.lent), f.short, c.loop-j.invariant.tidy)
 
 pub loop-j-preserved : goal.loop-j-preserved
 loop-j-preserved c =
-    (search rules, c.take_one.ensures _ c.loop-j.invariant.1)
+    c.take_one.ensures _ c.loop-j.invariant
 
 pub shape_of-table : goal.shape_of-table
 shape_of-table c =
-    c.loop-j.invariant.1.tidy.long ∙ sym (ap length c.requires.table_value ∙ length-replicate {A = ℕ} 2049 0)
+    c.loop-j.invariant.tidy.long ∙ sym (ap length c.requires.table_value ∙ length-replicate {A = ℕ} 2049 0)
 
 pub returns : goal.returns
 returns c =
-    let e : c.loop-j.j ≡ c.args.k = omega arith in rw e at c.loop-j.invariant.1
+    let e : c.loop-j.j ≡ c.args.k = omega arith in rw e at c.loop-j.invariant

@@ -1,12 +1,8 @@
-use Prim.Native.Nat.{◌-◌, ◌≤◌}
 use mathlib.Core.Path.{◌≡◌}
-use lib.ListN.{length, get_or, replicate}
+use lib.ListN.{get_or, replicate}
 use Rattle.bitrows.specs.Rows.{filled}
 use Rattle.layers.specs.Table.{row_of}
 use Rattle.layers.proofs.free_table.striped.Given as goal
 
 abbrev pub invariant-loop-j : goal.invariant-loop-j
-invariant-loop-j l = (l.j ≤ 32) × (length l.x ≡ 32) × (l.x ≡ filled (replicate 32 0) (λ i. get_or l.rows (row_of i) 0) l.j)
-
-abbrev pub decreases-loop-j : goal.decreases-loop-j
-decreases-loop-j l = 32 - l.j
+invariant-loop-j l = l.x ≡ filled (replicate 32 0) (λ i. get_or l.rows (row_of i) 0) l.j

@@ -1,5 +1,5 @@
--- `layers::free_table::take_one` meets its contract. The loop's invariant: the view's cells at the beats passed are taken out. The measure
--- is what is left of the beats up to the one from which on the view stays. Assumes nothing.
+-- `layers::free_table::take_one` meets its contract. The loop's invariant: the view's cells at the beats passed are taken out.
+-- Assumes nothing.
 use native.Mathlib.Omega.{arith}
 use mathlib.Core.Path.{◌≡◌, sym, ◌∙◌}
 use Rattle.layers.proofs.TakenLaws.{taken_none, taken_more, taken_parked}
@@ -12,7 +12,7 @@ parked_from-a-requires c =
 
 pub loop-t-init : goal.loop-t-init
 loop-t-init c =
-    (omega arith, taken_none _ _ _ _ c.requires.3)
+    taken_none _ _ _ _ c.requires.3
 
 pub view_cell-c-requires : goal.view_cell-c-requires
 view_cell-c-requires c =
@@ -21,25 +21,21 @@ view_cell-c-requires c =
 pub drop_cell-requires : goal.drop_cell-requires
 drop_cell-requires c = (
   c.requires.0,
-  omega (arith, c.beat_before.ensures),
+  omega (arith, c.saturating_sub.ensures),
   omega (arith, c.requires.2, c.parked_from-a.ensures.upto, c.loop-t-test.true),
-  c.loop-t.invariant.1.tidy,
+  c.loop-t.invariant.tidy,
 )
 
 pub loop-t-preserved : goal.loop-t-preserved
-loop-t-preserved c = (
-  omega (arith, c.loop-t-test.true),
-  taken_more _ _ _ _ _ _ _ _ _ c.loop-t.invariant.1 c.beat_before.ensures
-      c.view_cell-c.ensures.0
-      c.drop_cell.ensures,
-)
+loop-t-preserved c =
+    taken_more _ _ _ _ _ _ _ _ _ c.loop-t.invariant c.saturating_sub.ensures c.view_cell-c.ensures.0 c.drop_cell.ensures
 
 pub drop_cell-requires-2 : goal.drop_cell-requires-2
 drop_cell-requires-2 c = (
   c.requires.0,
-  omega (arith, c.beat_before-2.ensures, c.parked_from-a.ensures.upto),
+  omega (arith, c.saturating_sub-2.ensures, c.parked_from-a.ensures.upto),
   omega (arith, c.requires.2),
-  c.loop-t.invariant.1.tidy,
+  c.loop-t.invariant.tidy,
 )
 
 pub shape_of-table : goal.shape_of-table
@@ -49,7 +45,7 @@ shape_of-table c =
 pub returns : goal.returns
 returns c =
     let v = c.loop-t.invariant in
-    let e : c.loop-t.t ≡ c.parked_from-a.result = omega (arith, v.0) in
-    let taken = taken_parked _ _ _ _ _ _ _ _ _ c.parked_from-a.ensures (rw e at v.1)
-    c.beat_before-2.ensures c.view_cell-last.ensures.0 c.drop_cell-2.ensures in
+    let e : c.loop-t.t ≡ c.parked_from-a.result = omega arith in
+    let taken = taken_parked _ _ _ _ _ _ _ _ _ c.parked_from-a.ensures (rw e at v)
+    c.saturating_sub-2.ensures c.view_cell-last.ensures.0 c.drop_cell-2.ensures in
     λ free old. free_table_more _ _ _ _ _ _ c.requires.0.narrow c.requires.0.low c.requires.2 taken old

@@ -1,9 +1,9 @@
 -- `layers::step::propagate` meets its contract. The loop's invariant: the stripes are the set of the beat at hand, and that
--- number of steps is done. The measure is what is left of the steps. Assumes nothing.
+-- number of steps is done. Assumes nothing.
 use Prim.Native.Nat.{◌<◌}
 use native.Mathlib.Omega.{arith}
 use mathlib.Core.Path.{◌≡◌, sym, ◌∙◌}
-use Rattle.layers.proofs.SweptLaws.{within_low, within_few, beat_first, beat_next, beat_low, beat_some, stripes_same, swept_none}
+use Rattle.layers.proofs.SweptLaws.{within_low, beat_first, beat_next, beat_low, beat_some, stripes_same, swept_none}
 use Rattle.layers.proofs.SweptLaws.{swept_step}
 use Rattle.layers.proofs.step.propagate.Goals as goal
 use Rattle.layers.proofs.step.propagate.Goals.{After-next_beat-t}
@@ -11,9 +11,9 @@ use Rattle.layers.proofs.step.propagate.Goals.{After-next_beat-t}
 -- The beat that a step goes to is in the table.
 low : (place : After-next_beat-t) → place.next_beat-t.result < 64
 low place =
-    let v = place.loop-i.invariant in
-    rw (place.next_beat-t.ensures, v.1, beat_next place.args.back place.args.from place.loop-i.i)
-    (beat_low _ _ _ _ place.requires.3 (omega (arith, place.loop-i-test.true)))
+    let v = place.loop.invariant in
+    rw (place.next_beat-t.ensures, v.0, beat_next place.args.back place.args.from place.loop.counter)
+    (beat_low _ _ _ _ place.requires.3 (omega (arith, place.loop-test.true)))
 
 pub overflow_mul-from : goal.overflow_mul-from
 overflow_mul-from c =
@@ -23,9 +23,8 @@ pub load-x-requires : goal.load-x-requires
 load-x-requires c =
     omega (arith, within_low _ _ _ c.requires.3, c.requires.0)
 
-pub loop-i-init : goal.loop-i-init
-loop-i-init c = (
-  omega arith,
+pub loop-init : goal.loop-init
+loop-init c = (
   beat_first _ _,
   c.requires.0,
   c.load-x.ensures,
@@ -34,9 +33,9 @@ loop-i-init c = (
 
 pub next_beat-t-requires : goal.next_beat-t-requires
 next_beat-t-requires c =
-    let v = c.loop-i.invariant in
-    let l = c.loop-i-test.true in
-    (rw v.1 (beat_low _ _ _ _ c.requires.3 v.0), λ e. rw v.1 (beat_some _ _ _ _ c.requires.3 l e))
+    let v = c.loop.invariant in
+    let l = c.loop-test.true in
+    (rw v.0 (beat_low _ _ _ _ c.requires.3 (omega arith)), λ e. rw v.0 (beat_some _ _ _ _ c.requires.3 l e))
 
 pub overflow_mul-t : goal.overflow_mul-t
 overflow_mul-t c =
@@ -50,39 +49,31 @@ pub advance-next-requires : goal.advance-next-requires
 advance-next-requires c =
     c.requires.2
 
-pub overflow_mul-t-in-loop-i : goal.overflow_mul-t-in-loop-i
-overflow_mul-t-in-loop-i c =
-    omega (arith, low (goal.at.overflow_mul-t-in-loop-i c).After-next_beat-t)
+pub overflow_mul-t-in-loop : goal.overflow_mul-t-in-loop
+overflow_mul-t-in-loop c =
+    omega (arith, low (goal.at.overflow_mul-t-in-loop c).After-next_beat-t)
 
 pub save-requires : goal.save-requires
 save-requires c =
-    omega (arith, low (goal.at.save-requires c).After-next_beat-t, c.loop-i.invariant.2)
+    omega (arith, low (goal.at.save-requires c).After-next_beat-t, c.loop.invariant.1)
 
-pub overflow_add-i : goal.overflow_add-i
-overflow_add-i c =
-    omega (arith, within_few _ _ _ c.requires.3, c.loop-i-test.true)
-
-pub loop-i-smaller : goal.loop-i-smaller
-loop-i-smaller c = omega arith
-
-pub loop-i-preserved : goal.loop-i-preserved
-loop-i-preserved c =
-    let v = c.loop-i.invariant in
-    let carried = c.advance-next.ensures _ _ v.3 c.load.ensures in
+pub loop-preserved : goal.loop-preserved
+loop-preserved c =
+    let v = c.loop.invariant in
+    let carried = c.advance-next.ensures _ _ v.2 c.load.ensures in
     let new = c.save.ensures _ carried in (
-      omega (arith, c.loop-i-test.true),
-      c.next_beat-t.ensures ∙ rw v.1 (beat_next _ _ _),
-      new.long ∙ v.2,
+      c.next_beat-t.ensures ∙ rw v.0 (beat_next _ _ _),
+      new.long ∙ v.1,
       carried ∙ stripes_same _ _ (λ j l. sym (new.inside j l)),
-      λ g grid tidy ground. swept_step g _ _ _ _ _ _ _ _ _ _ grid ground c.requires.3 c.loop-i-test.true v.1
-          c.next_beat-t.ensures (v.4 g grid tidy ground) new,
+      λ g grid tidy ground. swept_step g _ _ _ _ _ _ _ _ _ _ grid ground c.requires.3 c.loop-test.true v.0
+          c.next_beat-t.ensures (v.3 g grid tidy ground) new,
     )
 
 pub shape_of-sets : goal.shape_of-sets
 shape_of-sets c =
-    c.loop-i.invariant.2 ∙ sym c.requires.0
+    c.loop.invariant.1 ∙ sym c.requires.0
 
 pub returns : goal.returns
 returns c =
-    let e : c.loop-i.i ≡ c.args.n = omega arith in
-    rw e at c.loop-i.invariant.4
+    let e : c.loop.counter ≡ c.args.n = omega arith in
+    rw e at c.loop.invariant.3

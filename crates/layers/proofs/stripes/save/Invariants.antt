@@ -1,4 +1,4 @@
-use Prim.Native.Nat.{ℕ, ◌*◌, ◌-◌, ◌≤◌}
+use Prim.Native.Nat.{ℕ, ◌*◌}
 use mathlib.Core.Path.{◌≡◌}
 use lib.ListN.{length}
 use Rattle.layers.specs.Table.{Rewritten}
@@ -7,7 +7,4 @@ use Rattle.layers.proofs.stripes.save.Given as goal
 
 abbrev pub invariant-loop-i : goal.invariant-loop-i
 invariant-loop-i l =
-    (l.i ≤ 8) × (length l.table ≡ length l.initial.table) × ((value : ℕ → ℕ) → l.x ≡ stripes_of value → Rewritten l.initial.table value l.at (4 * l.i) l.table)
-
-abbrev pub decreases-loop-i : goal.decreases-loop-i
-decreases-loop-i l = 8 - l.i
+    (length l.table ≡ length l.initial.table) × ((value : ℕ → ℕ) → l.x ≡ stripes_of value → Rewritten l.initial.table value l.at (4 * l.i) l.table)

@@ -22,9 +22,9 @@ bounds-walls-found c =
     omega (
       arith,
       list_low _ _ _ _ _ e,
-      list_keep _ _ _ _ _ e (omega (arith, c.loop-c-test.true, c.requires.2)),
+      list_keep _ _ _ _ _ e (omega (arith, c.loop-c-test.true, c.requires.1)),
       c.loop-c-test.true,
-      c.requires.2,
+      c.requires.1,
     )
 
 pub overflow_add-found : goal.overflow_add-found
@@ -39,15 +39,15 @@ loop-c-preserved c =
     let less = c.loop-c-test.true in
     elim c.if-marks-c-eq35.branch [
       | then-marks-c-eq35 w ↦
-          (omega arith, list_there _ _ _ _ _ e _ _ (eq-eqb _ 35 w.if-marks-c-eq35.true) w.walls-is w.found-is (omega (arith, c.requires.2)))
+          (omega arith, list_there _ _ _ _ _ e _ _ (eq-eqb _ 35 w.if-marks-c-eq35.true) w.walls-is w.found-is (omega (arith, c.requires.1)))
       | else-marks-c-eq35 w ↦
-          (omega arith, list_away _ _ _ _ _ e _ _ (ne_eqb _ 35 w.if-marks-c-eq35.false) w.walls-is w.found-is (omega (arith, c.requires.2)))
+          (omega arith, list_away _ _ _ _ _ e _ _ (ne_eqb _ 35 w.if-marks-c-eq35.false) w.walls-is w.found-is (omega (arith, c.requires.1)))
     ]
 
 pub shape_of-walls : goal.shape_of-walls
 shape_of-walls c =
     let e = c.loop-c.invariant.1 in
-    list_keep _ _ _ _ _ e (omega (arith, c.loop-c.invariant.0, c.requires.2))
+    list_keep _ _ _ _ _ e (omega (arith, c.loop-c.invariant.0, c.requires.1))
 
 pub returns : goal.returns
 returns c =

@@ -1,15 +1,7 @@
--- `maps::marks::is_among` meets its contract: none of the numbers passed is c.
-use Rattle.floor.proofs.AmongLaws.{looks}
+-- `maps::marks::is_among` meets its contract: the first k numbers are looked through.
+use mathlib.Core.Path.{◌∙◌}
+use Rattle.maps.proofs.MarkLaws.{any_among}
 use Rattle.maps.proofs.marks.is_among.Goals as goal
 
-pub loop-i-init : goal.loop-i-init
-loop-i-init c = search looks
-
-pub returns-then-xs-i : goal.returns-then-xs-i
-returns-then-xs-i c = search looks
-
-pub loop-i-preserved : goal.loop-i-preserved
-loop-i-preserved c = search looks
-
 pub returns : goal.returns
-returns c = search looks
+returns c = c.contains.ensures.value ∙ any_among c.args.xs.now c.args.c c.args.k c.requires

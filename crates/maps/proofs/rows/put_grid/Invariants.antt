@@ -1,4 +1,4 @@
-use Prim.Native.Nat.{◌-◌, ◌≤◌}
+use Prim.Native.Nat.{◌≤◌}
 use Rattle.sheet.specs.Text.{lines_of}
 use Rattle.reporting.specs.Put.{PutAt}
 use Rattle.maps.specs.Text.{row_of}
@@ -6,6 +6,3 @@ use Rattle.maps.proofs.rows.put_grid.Given as goal
 
 abbrev pub invariant-loop-row : goal.invariant-loop-row
 invariant-loop-row l = (l.row ≤ l.h) × PutAt (lines_of (row_of l.marks l.w) l.row) l.initial.out l.at l.out l.end
-
-abbrev pub decreases-loop-row : goal.decreases-loop-row
-decreases-loop-row l = l.h - l.row

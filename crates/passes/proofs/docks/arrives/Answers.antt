@@ -1,5 +1,5 @@
--- `passes::docks::arrives` meets its contract. The loop's invariant: none of the docks passed is an arrival. The measure is what is left of
--- the docks. Assumes nothing.
+-- `passes::docks::arrives` meets its contract. The loop's invariant: none of the docks passed is an arrival.
+-- Assumes nothing.
 use mathlib.Core.Path.{sym, ◌∙◌}
 use Rattle.passes.specs.Docks.{held_at, arrivable_at, arrivable}
 use Rattle.passes.proofs.AnyLaws.{any_start, any_more, any_stop, any_end}

@@ -1,10 +1,6 @@
-use Prim.Native.Nat.{◌-◌}
 use Rattle.passes.specs.Docks.{arrivable_at}
 use Rattle.passes.proofs.AnyLaws.{Untold}
 use Rattle.passes.proofs.docks.arrives.Given as goal
 
 abbrev pub invariant-loop-d : goal.invariant-loop-d
 invariant-loop-d l = Untold (arrivable_at l.g l.sets l.ds l.t) l.n l.d
-
-abbrev pub decreases-loop-d : goal.decreases-loop-d
-decreases-loop-d l = l.n - l.d

@@ -1,13 +1,12 @@
--- `passes::docks::hold_docks` meets its contract. The loop's invariant: the beats of the docks passed are found. The measure is what is
--- left of the docks. Assumes nothing.
+-- `passes::docks::hold_docks` meets its contract. The loop's invariant: the beats of the docks passed are found.
+-- Assumes nothing.
 use Rattle.bitrows.proofs.FillLaws.{filled_none, filled_more}
 use Rattle.passes.proofs.EndsLaws.{held_made}
-use borrow.Author.Rules.{rules}
 use native.Mathlib.Omega.{arith}
 use Rattle.passes.proofs.docks.hold_docks.Goals as goal
 
 pub loop-d-init : goal.loop-d-init
-loop-d-init c = (search rules, filled_none _ _)
+loop-d-init c = filled_none _ _
 
 pub bounds-cells-d : goal.bounds-cells-d
 bounds-cells-d c =
@@ -24,8 +23,8 @@ bounds-holds-d c =
 
 pub loop-d-preserved : goal.loop-d-preserved
 loop-d-preserved c =
-    (omega (arith, c.loop-d-test.true), filled_more _ _ _ _ _ c.loop-d.invariant.1 c.hold_from.ensures)
+    filled_more _ _ _ _ _ c.loop-d.invariant c.hold_from.ensures
 
 pub returns : goal.returns
 returns c =
-    held_made _ _ _ _ _ _ c.loop-d.invariant.0 c.loop-d-test.false c.loop-d.invariant.1
+    held_made _ _ _ _ _ _ (omega arith) c.loop-d-test.false c.loop-d.invariant

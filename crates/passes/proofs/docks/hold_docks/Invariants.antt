@@ -1,4 +1,3 @@
-use Prim.Native.Nat.{◌-◌, ◌≤◌}
 use mathlib.Core.Path.{◌≡◌}
 use lib.ListN.{get_or, replicate}
 use Rattle.bitrows.specs.Rows.{filled}
@@ -7,7 +6,4 @@ use Rattle.passes.proofs.docks.hold_docks.Given as goal
 
 abbrev pub invariant-loop-d : goal.invariant-loop-d
 invariant-loop-d l =
-    (l.d ≤ l.count) × (l.holds ≡ filled (replicate 4 0) (λ j. hold_of l.g l.table (get_or l.cells j 0)) l.d)
-
-abbrev pub decreases-loop-d : goal.decreases-loop-d
-decreases-loop-d l = l.count - l.d
+    l.holds ≡ filled (replicate 4 0) (λ j. hold_of l.g l.table (get_or l.cells j 0)) l.d

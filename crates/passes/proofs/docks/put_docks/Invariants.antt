@@ -1,10 +1,6 @@
-use Prim.Native.Nat.{◌-◌, ◌≤◌}
 use Rattle.layers.specs.Step.{ChangedAt}
 use Rattle.passes.specs.Docks.{EndsAt}
 use Rattle.passes.proofs.docks.put_docks.Given as goal
 
 abbrev pub invariant-loop-d : goal.invariant-loop-d
-invariant-loop-d l = (l.d ≤ l.n) × ChangedAt l.g l.initial.sets l.a l.sets × EndsAt l.g l.sets l.ds l.a l.d
-
-abbrev pub decreases-loop-d : goal.decreases-loop-d
-decreases-loop-d l = l.n - l.d
+invariant-loop-d l = ChangedAt l.g l.initial.sets l.a l.sets × EndsAt l.g l.sets l.ds l.a l.d

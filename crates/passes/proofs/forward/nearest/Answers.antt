@@ -1,5 +1,5 @@
--- `passes::forward::nearest` meets its contract. The loop's invariant: what is nearest yet is not past the horizon. The measure is what is
--- left of the docks. Assumes nothing.
+-- `passes::forward::nearest` meets its contract. The loop's invariant: what is nearest yet is not past the horizon.
+-- Assumes nothing.
 use native.Mathlib.Omega.{arith}
 use Rattle.passes.proofs.forward.nearest.Goals as goal
 
@@ -7,7 +7,7 @@ pub bounds-ds-d : goal.bounds-ds-d
 bounds-ds-d c =
     omega (arith, c.loop-d-test.true, c.requires.2.few)
 
-pub manhattan-beats-requires : goal.manhattan-beats-requires
-manhattan-beats-requires c =
+pub manhattan-requires : goal.manhattan-requires
+manhattan-requires c =
     let p = c.requires in
     (p.0, p.1, p.2.inside _ c.loop-d-test.true)

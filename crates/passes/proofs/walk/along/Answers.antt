@@ -1,5 +1,5 @@
 -- `passes::walk::along` meets its contract. The loop's invariant: the place is that of the path's cell at the beat, and the route has the
--- cells passed. The measure is what is left of the beats. Assumes nothing.
+-- cells passed. Assumes nothing.
 use native.Mathlib.Omega.{arith}
 use mathlib.Core.Path.{◌≡◌, refl}
 use Rattle.bitrows.proofs.FillLaws.{filled_none, filled_more}
@@ -14,36 +14,36 @@ overflow_cast-r c =
 pub loop-t-init : goal.loop-t-init
 unfolding path_of
 loop-t-init c =
-    (omega arith, c.requires.3, c.place_of-p.ensures, filled_more _ _ 0 _ _ (filled_none _ _) refl)
+    (c.requires.3, c.place_of-p.ensures, filled_more _ _ 0 _ _ (filled_none _ _) refl)
 
 pub next-p-requires : goal.next-p-requires
 next-p-requires c =
     let p = c.requires in
-    let at = c.loop-t.invariant.2 in
+    let at = c.loop-t.invariant.1 in
     (p.0, p.1, omega (arith, p.2, c.loop-t-test.true), at.low, at.thin)
 
 pub overflow_mul-r : goal.overflow_mul-r
 overflow_mul-r c =
     let v = c.loop-t.invariant in
-    omega (arith, next_low _ _ 0 0 _ _ _ c.requires.0 v.1 (c.next-p.ensures _ v.2))
+    omega (arith, next_low _ _ 0 0 _ _ _ c.requires.0 v.0 (c.next-p.ensures _ v.1))
 
 pub overflow_add-r : goal.overflow_add-r
 overflow_add-r c =
     let v = c.loop-t.invariant in
-    omega (arith, next_low _ _ 0 0 _ _ _ c.requires.0 v.1 (c.next-p.ensures _ v.2))
+    omega (arith, next_low _ _ 0 0 _ _ _ c.requires.0 v.0 (c.next-p.ensures _ v.1))
 
 pub overflow_cast-r-in-loop-t : goal.overflow_cast-r-in-loop-t
 overflow_cast-r-in-loop-t c =
     let v = c.loop-t.invariant in
-    omega (arith, next_low _ _ 0 0 _ _ _ c.requires.0 v.1 (c.next-p.ensures _ v.2))
+    omega (arith, next_low _ _ 0 0 _ _ _ c.requires.0 v.0 (c.next-p.ensures _ v.1))
 
 pub loop-t-preserved : goal.loop-t-preserved
 loop-t-preserved c =
     let v = c.loop-t.invariant in
-    let more = path_more _ _ _ _ _ _ c.requires.0 c.loop-t-test.true v.1 (c.next-p.ensures _ v.2) in
-    (omega (arith, c.loop-t-test.true), more.0, more.1, filled_more _ _ _ _ _ v.3 (place_cell _ _ _ more.1))
+    let more = path_more _ _ _ _ _ _ c.requires.0 c.loop-t-test.true v.0 (c.next-p.ensures _ v.1) in
+    (more.0, more.1, filled_more _ _ _ _ _ v.2 (place_cell _ _ _ more.1))
 
 pub returns : goal.returns
 returns c =
-    let e : c.loop-t.t ≡ c.args.a = omega (arith, c.loop-t.invariant.0) in
-    rw e at c.loop-t.invariant.3
+    let e : c.loop-t.t ≡ c.args.a = omega arith in
+    rw e at c.loop-t.invariant.2

@@ -1,4 +1,4 @@
-use Prim.Native.Nat.{◌+◌, ◌-◌, ◌≤◌, ◌<◌}
+use Prim.Native.Nat.{◌+◌, ◌<◌}
 use mathlib.Core.Path.{◌≡◌}
 use lib.ListN.{replicate}
 use Rattle.bitrows.specs.Rows.{filled}
@@ -8,8 +8,5 @@ use Rattle.passes.proofs.walk.along.Given as goal
 
 abbrev pub invariant-loop-t : goal.invariant-loop-t
 invariant-loop-t l =
-    (l.t ≤ l.a) × (path_of l.g l.sets l.start l.a l.t < l.g.cells) × PlaceOf l.g (path_of l.g l.sets l.start l.a l.t) l.p
+    (path_of l.g l.sets l.start l.a l.t < l.g.cells) × PlaceOf l.g (path_of l.g l.sets l.start l.a l.t) l.p
     × (l.r ≡ filled (replicate 64 0) (path_of l.g l.sets l.start l.a) (l.t + 1))
-
-abbrev pub decreases-loop-t : goal.decreases-loop-t
-decreases-loop-t l = l.a - l.t

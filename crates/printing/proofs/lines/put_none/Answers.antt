@@ -2,14 +2,10 @@
 use Rattle.printing.specs.Text.{none_line, none_word}
 use Rattle.fields.specs.Field.{field_of}
 use mathlib.Core.Path.{refl}
-use lib.ListN.{length-set}
 use Rattle.laws.proofs.PutLaws.{put_next}
 use Rattle.sheet.proofs.LineLaws.{newline_next}
 use native.Mathlib.Omega.{arith}
 use Rattle.printing.proofs.lines.put_none.Goals as goal
-
-pub shape_of-out : goal.shape_of-out
-shape_of-out c = simp length-set (omega arith)
 
 pub returns : goal.returns
 unfolding none_line none_word field_of

@@ -1,15 +1,11 @@
 -- `printing::lines::put_refusal` meets its contract: three fields and a newline, one behind the other.
 use mathlib.Core.Path.{refl}
-use lib.ListN.{length-set}
 use Rattle.printing.specs.Text.{refusal_line}
 use Rattle.fields.specs.Field.{field_of}
 use Rattle.sheet.specs.Text.{line_of}
 use Rattle.sheet.proofs.LineLaws.{field_next, newline_next}
 use native.Mathlib.Omega.{arith}
 use Rattle.printing.proofs.lines.put_refusal.Goals as goal
-
-pub shape_of-out : goal.shape_of-out
-shape_of-out c = simp length-set (omega arith)
 
 pub returns : goal.returns
 unfolding refusal_line line_of field_of

@@ -1,14 +1,11 @@
 -- `printing::lines::put_route` meets its contract: two fields, the cells and a newline, one behind the other.
 use mathlib.Core.Path.{◌≡◌}
-use lib.ListN.{length, take, length-set}
+use lib.ListN.{length, take}
 use lib.Seq.{length-take-le}
 use Rattle.printing.proofs.FieldsLaws.{route_line}
 use native.Mathlib.Omega.{arith}
 use borrow.Author.Rules.{rules}
 use Rattle.printing.proofs.lines.put_route.Goals as goal
-
-pub shape_of-out : goal.shape_of-out
-shape_of-out c = simp length-set (omega arith)
 
 pub returns : goal.returns
 returns c =

@@ -4,7 +4,6 @@ use Rattle.sheet.proofs.DockLaws.{cell_text_length, dock_place, dock_put}
 use mathlib.Core.Path.{refl}
 use Prim.Native.Nat.{ℕ}
 use native.Mathlib.Omega.{arith}
-use borrow.Author.Rules.{rules}
 use Rattle.sheet.proofs.lines.put_docks.Goals as goal
 
 pub loop-k-init : goal.loop-k-init
@@ -13,24 +12,22 @@ loop-k-init c = search lines
 pub put_cell-requires : goal.put_cell-requires
 put_cell-requires c =
     let size = even_keep _ 10 _ (λ (p : ℕ). cell_text_length _ _) _ _ c.loop-k.k
-    (omega (arith, c.requires, c.loop-k-test.true)) c.loop-k.invariant.1 in record {
+    (omega (arith, c.requires, c.loop-k-test.true)) c.loop-k.invariant in record {
       at_in_bounds = omega (arith, size, c.requires, c.loop-k-test.true);
       width_nonzero = c.requires.i_bound.1;
     }
 
 pub loop-k-preserved : goal.loop-k-preserved
 loop-k-preserved c =
-    let dock = dock_place c.args.f c.args.i c.loop-k.k (omega (arith, c.requires, c.loop-k-test.true)) in (
-      search rules,
-      even_next _ 10 _ (λ (p : ℕ). cell_text_length _ _) _ _ _ _ _ c.loop-k.invariant.1
-          (dock_put _ _ _ _ dock c.put_cell.ensures) refl
-          (omega (arith, c.requires, c.loop-k-test.true)),
-    )
+    let dock = dock_place c.args.f c.args.i c.loop-k.k (omega (arith, c.requires, c.loop-k-test.true)) in
+    even_next _ 10 _ (λ (p : ℕ). cell_text_length _ _) _ _ _ _ _ c.loop-k.invariant
+    (dock_put _ _ _ _ dock c.put_cell.ensures) refl
+    (omega (arith, c.requires, c.loop-k-test.true))
 
 pub shape_of-out : goal.shape_of-out
 shape_of-out c =
-    even_keep _ 10 _ (λ (p : ℕ). cell_text_length _ _) _ _ c.loop-k.k (omega (arith, c.requires, c.loop-k.invariant.0))
-    c.loop-k.invariant.1
+    even_keep _ 10 _ (λ (p : ℕ). cell_text_length _ _) _ _ c.loop-k.k (omega (arith, c.requires, c.loop-k.auto.k-end))
+    c.loop-k.invariant
 
 pub returns : goal.returns
 returns c = search lines

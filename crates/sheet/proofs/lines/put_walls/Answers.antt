@@ -3,7 +3,6 @@ use Rattle.sheet.specs.Text.{sheet_length, wall_at}
 use Rattle.sheet.proofs.LineLaws.{lines, even_next, even_keep, wall_length}
 use mathlib.Core.Path.{refl}
 use Prim.Native.Nat.{ℕ}
-use borrow.Author.Rules.{rules}
 use native.Mathlib.Omega.{arith}
 use Rattle.sheet.proofs.lines.put_walls.Goals as goal
 
@@ -16,7 +15,7 @@ put_wall-requires c =
     let base = c.walls_at-base.ensures.0 in
     let l = c.loop-j-test.true in
     let size = even_keep _ 11 _ (λ (p : ℕ). wall_length _ _) _ _ c.loop-j.j (omega (arith, c.requires, base, l))
-    c.loop-j.invariant.1 in record {
+    c.loop-j.invariant in record {
       width_nonzero = c.requires.walls_in_bounds.1;
       at_in_bounds = omega (arith, c.requires, base, l, size);
     }
@@ -25,17 +24,15 @@ pub loop-j-preserved : goal.loop-j-preserved
 unfolding sheet_length wall_at
 loop-j-preserved c =
     let base = c.walls_at-base.ensures.0 in
-    let l = c.loop-j-test.true in (
-      search rules,
-      even_next _ 11 _ (λ (p : ℕ). wall_length _ _) _ _ _ _ _ c.loop-j.invariant.1
-          c.put_wall.ensures refl (omega (arith, c.requires, base, l)),
-    )
+    let l = c.loop-j-test.true in
+    even_next _ 11 _ (λ (p : ℕ). wall_length _ _) _ _ _ _ _ c.loop-j.invariant
+    c.put_wall.ensures refl (omega (arith, c.requires, base, l))
 
 pub shape_of-out : goal.shape_of-out
 unfolding sheet_length wall_at
 shape_of-out c =
     even_keep _ 11 _ (λ (p : ℕ). wall_length _ _) _ _ c.loop-j.j
-    (omega (arith, c.requires, c.walls_at-base.ensures.0, c.loop-j.invariant.0)) c.loop-j.invariant.1
+    (omega (arith, c.requires, c.walls_at-base.ensures.0, c.loop-j.auto.j-end)) c.loop-j.invariant
 
 pub returns : goal.returns
 returns c =

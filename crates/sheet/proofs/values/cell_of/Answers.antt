@@ -2,7 +2,9 @@
 use Rattle.sheet.proofs.CellLaws.{grid_small, rows_small}
 use Rattle.sheet.specs.Values.{cell_of}
 use borrow.Author.Tests.{lt-ltb, le-ltb}
+use mathlib.Core.Bool.{and-false}
 use native.Mathlib.Omega.{arith}
+use Rattle.sheet.proofs.values.cell_of.Goals.{then-width-col-via-then-width-col, then-width-col-via-else-width-col+then-height-row}
 use Rattle.sheet.proofs.values.cell_of.Goals as goal
 
 pub overflow_mul-result : goal.overflow_mul-result
@@ -10,14 +12,11 @@ overflow_mul-result c = omega (arith, grid_small c.requires.0 c.requires.1)
 
 pub returns-then-width-col : goal.returns-then-width-col
 unfolding cell_of
-returns-then-width-col c = rw (le-ltb _ _ c.if-width-col.true)
-
-pub overflow_mul-result-then-height-row : goal.overflow_mul-result-then-height-row
-overflow_mul-result-then-height-row c = omega (arith, grid_small c.requires.0 c.requires.1)
-
-pub returns-then-height-row : goal.returns-then-height-row
-unfolding cell_of
-returns-then-height-row c = rw (lt-ltb _ _ c.if-width-col.false, le-ltb _ _ c.if-height-row.true)
+returns-then-width-col c =
+    elim c.then-width-col.branch [
+      | then-width-col-via-then-width-col w ↦ rw (le-ltb _ _ w.if-width-col.true)
+      | then-width-col-via-else-width-col+then-height-row w ↦ rw (le-ltb _ _ w.if-height-row.true, and-false _)
+    ]
 
 pub overflow_mul-result-2 : goal.overflow_mul-result-2
 overflow_mul-result-2 c = omega (arith, rows_small c.if-height-row.false c.requires)

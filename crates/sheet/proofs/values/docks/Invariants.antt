@@ -1,12 +1,7 @@
-use Rattle.sheet.proofs.ValueLaws.{place_with}
-use Rattle.sheet.specs.Values.{up_to, listed}
+use Rattle.sheet.specs.Values.{cell_at_column, up_to, listed}
 use mathlib.Core.Path.{◌≡◌}
-use Prim.Native.Nat.{◌-◌, ◌≤◌}
+use Prim.Native.Nat.{ℕ, ◌+◌, ◌*◌}
 use Rattle.sheet.proofs.values.docks.Given as goal
 
-abbrev pub invariant-loop-p : goal.invariant-loop-p
-invariant-loop-p l =
-    (l.p ≤ l.last) × (l.found ≡ listed (up_to l.p (place_with l.text l.n l.width l.height)) 32)
-
-abbrev pub decreases-loop-p : goal.decreases-loop-p
-decreases-loop-p l = l.last - l.p
+abbrev pub invariant-loop-k : goal.invariant-loop-k
+invariant-loop-k l = l.found ≡ listed (up_to l.k (λ (p : ℕ). cell_at_column l.text l.f.width l.f.height (l.at + 10 * p))) 4

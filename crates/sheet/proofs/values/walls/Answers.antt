@@ -2,7 +2,6 @@
 use Rattle.sheet.proofs.ListedLaws.{lists, listed_keeps, listed_store}
 use Rattle.sheet.specs.Text.{wall_at}
 use Rattle.sheet.specs.Values.{walls_from}
-use borrow.Author.Rules.{rules}
 use native.Mathlib.Omega.{arith}
 use Rattle.sheet.proofs.values.walls.Goals as goal
 
@@ -16,13 +15,13 @@ cell-requires c = record {
 }
 
 pub bounds-out-j : goal.bounds-out-j
-bounds-out-j c = omega (arith, listed_keeps _ _ _ _ (omega arith) c.loop-j.invariant.1)
+bounds-out-j c = omega (arith, listed_keeps _ _ _ _ (omega arith) c.loop-j.invariant)
 
 pub loop-j-preserved : goal.loop-j-preserved
-loop-j-preserved c = (search rules, listed_store _ _ _ _ _ (omega arith) c.loop-j.invariant.1 c.cell.ensures)
+loop-j-preserved c = listed_store _ _ _ _ _ (omega arith) c.loop-j.invariant c.cell.ensures
 
 pub shape_of-out : goal.shape_of-out
-shape_of-out c = listed_keeps _ _ _ _ (omega arith) c.loop-j.invariant.1
+shape_of-out c = listed_keeps _ _ _ _ (omega arith) c.loop-j.invariant
 
 pub returns : goal.returns
 unfolding walls_from wall_at

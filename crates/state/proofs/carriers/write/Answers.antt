@@ -1,6 +1,6 @@
 -- `state::carriers::write` meets its contract: two numbers and a record behind them.
-use lib.ListN.{length, length-set}
-use mathlib.Core.Path.{◌≡◌, ◌∙◌}
+use lib.ListN.{length}
+use mathlib.Core.Path.{◌≡◌}
 use Rattle.state.proofs.CountLaws.{put_three}
 use native.Mathlib.Omega.{arith}
 use borrow.Author.Rules.{rules}
@@ -10,23 +10,12 @@ use Rattle.state.proofs.carriers.write.Goals.{Start}
 cells-long : (start : Start) → length start.args.cells ≡ 64
 cells-long start = search rules
 
-pub bounds-m-place : goal.bounds-m-place
-bounds-m-place c =
-    simp length-set (omega (arith, c.requires, c.due_place-place.ensures))
-
-pub store-requires : goal.store-requires
-store-requires c =
-    simp length-set (omega (arith, c.requires, c.answer_place-a.ensures))
-
-pub shape_of-m : goal.shape_of-m
-shape_of-m c = c.store.auto.m ∙ simp length-set
-
 pub returns : goal.returns
 returns c =
     let e = cells-long (goal.at.returns c).Start in
-    let p = c.planned_place-p.ensures in
-    let d = c.due_place-place.ensures in
-    let a = c.answer_place-a.ensures in
+    let p = c.planned_place.ensures in
+    let d = c.due_place.ensures in
+    let a = c.answer_place.ensures in
     rw (← p.0)
     (put_three _ _ _ _ _ _ _ _ c.store.ensures (omega (arith, p, d)) (omega (arith, d, a))
     (omega (arith, a, e, c.requires)))

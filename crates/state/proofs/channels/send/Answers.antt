@@ -1,20 +1,12 @@
 -- `state::channels::send` meets its contract: after k carriers the memory is the one sent to the first k.
-use Rattle.encoding.specs.InnerSteps.{sent_to}
-use Rattle.state.proofs.RecordLaws.{send_more}
-use mathlib.Core.Path.{◌≡◌, ◌∙◌}
-use borrow.Author.Rules.{rules}
+use Rattle.state.proofs.RecordLaws.{none_sent, send_more}
+use mathlib.Core.Path.{◌∙◌, refl}
 use native.Mathlib.Omega.{arith}
 use Rattle.state.proofs.channels.send.Goals as goal
 
+pub loop-k-init : goal.loop-k-init
+loop-k-init c = none_sent _ _ _ _ _ (omega arith)
+
 pub loop-k-preserved : goal.loop-k-preserved
 loop-k-preserved c =
-    (search rules, (c.push_below.auto.m ∙ c.loop-k.invariant.1.0, search send_more))
-
-pub returns : goal.returns
-returns c =
-    let same : c.loop-k.k ≡ c.args.n = omega arith in
-    rw same at c.loop-k.invariant.1.1
-
-pub loop-k-init : goal.loop-k-init
-unfolding sent_to
-loop-k-init c = search rules
+    send_more _ _ _ _ _ _ _ c.loop-k.auto.k c.loop-k.invariant (c.push.ensures ∙ rw c.channel_place.ensures.0 refl)

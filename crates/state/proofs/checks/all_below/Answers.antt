@@ -1,11 +1,9 @@
 -- `state::checks::all_below` meets its contract: all are below a bound exactly if the largest is.
-use mathlib.Core.Path.{refl}
-use Rattle.state.proofs.NumbersLaws.{each_none, below_largest}
+use Rattle.state.proofs.NumbersLaws.{none_below, some_below}
 use Rattle.state.proofs.checks.all_below.Goals as goal
 
-pub returns-then-n-eq0 : goal.returns-then-n-eq0
-returns-then-n-eq0 c = each_none _ _ c.if-n-eq0.true
+pub returns-then-is_empty : goal.returns-then-is_empty
+returns-then-is_empty c = none_below _ _ c.is_empty.ensures c.if-is_empty.true
 
-pub returns : goal.returns
-returns c =
-    below_largest _ _ _ _ _ _ c.if-n-eq0.false c.largest.ensures refl
+pub returns-else-is_empty : goal.returns-else-is_empty
+returns-else-is_empty c = some_below _ _ _ c.is_empty.ensures c.if-is_empty.false c.largest.ensures

@@ -1,13 +1,12 @@
 -- `state::checks::cells_valid` meets its contract: the cells that are used, then those behind.
-use Rattle.state.proofs.EachLaws.{said_no, said_yes}
-use Rattle.state.proofs.NumbersLaws.{parts_stop, parts_rest}
+use Rattle.state.proofs.EachLaws.{first_said, second_said}
+use Rattle.state.proofs.NumbersLaws.{parts}
 use Rattle.state.proofs.checks.cells_valid.Goals as goal
 
-pub returns-then-not-all_below : goal.returns-then-not-all_below
-returns-then-not-all_below c =
-    parts_stop _ _ _ _ _ c.capped-n.ensures (said_no c.all_below.ensures c.if-not-all_below.true-raw)
+pub returns-then-all_below : goal.returns-then-all_below
+returns-then-all_below c =
+    second_said (parts _ _ _ _ _ c.min-n.ensures c.requires) c.all_below.ensures c.if-all_below.true c.all_below-then-all_below.ensures
 
-pub returns : goal.returns
-returns c =
-    parts_rest _ _ _ _ _ c.capped-n.ensures _ (said_yes c.all_below.ensures c.if-not-all_below.false-raw)
-    c.all_below-2.ensures
+pub returns-else-all_below : goal.returns-else-all_below
+returns-else-all_below c =
+    first_said _ (parts _ _ _ _ _ c.min-n.ensures c.requires) c.all_below.ensures c.if-all_below.false

@@ -1,12 +1,16 @@
 -- `state::checks::channel_valid` meets its contract: the length first, then the four places.
-use Rattle.state.proofs.EachLaws.{tests}
-use Rattle.encoding.specs.Valid.{channel_valid}
+use Rattle.state.proofs.EachLaws.{and_next, all_each}
+use borrow.Author.Tests.{le-leb}
+use borrow.Author.Rules.{rules}
+use mathlib.Core.Path.{refl}
+use Prim.Native.Nat.{◌+◌}
+use lib.ListN.{get_or}
+use Rattle.encoding.specs.Valid.{channel_valid, place_valid}
 use Rattle.state.proofs.checks.channel_valid.Goals as goal
 
-pub returns-then-f-count : goal.returns-then-f-count
+pub returns-then-count-f : goal.returns-then-count-f
 unfolding channel_valid
-returns-then-f-count c = search tests
-
-pub returns : goal.returns
-unfolding channel_valid
-returns c = search tests
+returns-then-count-f c =
+    and_next _ _ (le-leb _ _ c.if-count-f.true)
+    (all_each 4 (place_valid c.args.f c.args.m.now (c.args.channel + 1) (get_or c.args.m.now c.args.channel 0)) refl
+    c.all.ensures.ran (λ x b q k. search rules))

@@ -1,15 +1,11 @@
--- `state::checks::pairs_valid` meets its contract: the loop holds that all receivers so far are valid.
-use Rattle.state.proofs.EachLaws.{each_turn}
+-- `state::checks::pairs_valid` meets its contract: it tests receiver after receiver.
+use Rattle.state.proofs.EachLaws.{all_each}
+use Rattle.laws.specs.Verdict.{each}
+use Prim.Native.Nat.{ℕ}
+use borrow.Author.Rules.{rules}
+use mathlib.Core.Path.{refl}
+use Rattle.encoding.specs.Valid.{pair_valid}
 use Rattle.state.proofs.checks.pairs_valid.Goals as goal
 
-pub loop-i-init : goal.loop-i-init
-loop-i-init c = search each_turn
-
-pub returns-then-not-receiver_valid : goal.returns-then-not-receiver_valid
-returns-then-not-receiver_valid c = search each_turn
-
-pub loop-i-preserved : goal.loop-i-preserved
-loop-i-preserved c = search each_turn
-
 pub returns : goal.returns
-returns c = search each_turn
+returns c = all_each _ (λ (i : ℕ). each i (pair_valid c.args.f c.args.m.now i)) refl c.all.ensures.ran (λ x b q k. search rules)

@@ -1,15 +1,9 @@
--- `state::checks::receiver_valid` meets its contract: the loop holds that all senders so far are valid.
-use Rattle.state.proofs.EachLaws.{each_turn}
+-- `state::checks::receiver_valid` meets its contract: it tests sender after sender.
+use Rattle.state.proofs.EachLaws.{all_each}
+use borrow.Author.Rules.{rules}
+use mathlib.Core.Path.{refl}
+use Rattle.encoding.specs.Valid.{pair_valid}
 use Rattle.state.proofs.checks.receiver_valid.Goals as goal
 
-pub loop-j-init : goal.loop-j-init
-loop-j-init c = search each_turn
-
-pub returns-then-not-pair_valid : goal.returns-then-not-pair_valid
-returns-then-not-pair_valid c = search each_turn
-
-pub loop-j-preserved : goal.loop-j-preserved
-loop-j-preserved c = search each_turn
-
 pub returns : goal.returns
-returns c = search each_turn
+returns c = all_each _ (pair_valid c.args.f c.args.m.now c.args.i) refl c.all.ensures.ran (λ x b q k. search rules)

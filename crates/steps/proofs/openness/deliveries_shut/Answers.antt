@@ -1,15 +1,9 @@
--- `steps::openness::deliveries_shut` meets its contract: the loop holds that no sender so far has an open delivery.
-use Rattle.state.proofs.EachLaws.{each_turn}
+-- `steps::openness::deliveries_shut` meets its contract: it tests sender after sender.
+use Rattle.state.proofs.EachLaws.{all_each}
+use borrow.Author.Rules.{rules}
+use mathlib.Core.Path.{refl}
+use Rattle.steps.specs.Inner.{sender_shut}
 use Rattle.steps.proofs.openness.deliveries_shut.Goals as goal
 
-pub loop-j-init : goal.loop-j-init
-loop-j-init c = search each_turn
-
-pub returns-then-not-sender_shut : goal.returns-then-not-sender_shut
-returns-then-not-sender_shut c = search each_turn
-
-pub loop-j-preserved : goal.loop-j-preserved
-loop-j-preserved c = search each_turn
-
 pub returns : goal.returns
-returns c = search each_turn
+returns c = all_each _ (sender_shut c.args.f c.args.m.now) refl c.all.ensures.ran (λ x b q k. search rules)

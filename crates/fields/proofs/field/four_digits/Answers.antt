@@ -1,9 +1,0 @@
--- `fields::field::four_digits` meets its contract: the first byte decides, or the others do.
-use Rattle.fields.proofs.WrittenLaws.{written}
-use Rattle.fields.proofs.field.four_digits.Goals as goal
-
-pub returns-then-not-is_digit : goal.returns-then-not-is_digit
-returns-then-not-is_digit c = search written
-
-pub returns : goal.returns
-returns c = search written

@@ -1,8 +1,0 @@
-use Rattle.layers.specs.FreeTable.{Parked}
-use Rattle.layers.proofs.free_table.parked_from.Given as goal
-
-abbrev pub invariant-loop-t : goal.invariant-loop-t
-invariant-loop-t l = Parked l.views l.j l.t l.horizon
-
-abbrev pub decreases-loop-t : goal.decreases-loop-t
-decreases-loop-t l = l.t

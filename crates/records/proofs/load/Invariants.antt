@@ -1,9 +1,0 @@
-use Rattle.records.proofs.LoadLaws.{CellsCopied}
-use Prim.Native.Nat.{◌-◌, ◌≤◌}
-use Rattle.records.proofs.load.Given as goal
-
-abbrev pub invariant-loop-t : goal.invariant-loop-t
-invariant-loop-t l = (l.t ≤ 64) × CellsCopied l.m l.at l.cells l.t
-
-abbrev pub decreases-loop-t : goal.decreases-loop-t
-decreases-loop-t l = 64 - l.t
