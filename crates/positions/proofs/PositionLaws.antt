@@ -16,7 +16,7 @@ use Rattle.positions.specs.declared.position.LineColumn.{LineColumn}
 use Rattle.positions.specs.Position.{line_at, column_at, line_of_refusal, column_of_refusal, line_word, column_word, colon, position_text}
 use Rattle.positions.specs.Inner.{Follows, StandsIn}
 
--- A loop over the bytes before one: in front of the text, behind one more byte, and at its end.
+-- A loop over the bytes before one: in front of the text, and behind one more byte.
 pub position_start : (text : List ℕ) → StandsIn text 0 (record { line = 1; column = 1 })
 unfolding line_at column_at
 position_start text = record { line = refl; column = refl; low_line = omega arith; low_column = omega arith }
@@ -32,9 +32,6 @@ position_more {text} {k} {byte} {x} {y} old e new =
       low_line = omega (arith, new.low_line, old.low_line);
       low_column = omega (arith, new.low_column, old.low_column);
     })
-
-pub position_end : {text : List ℕ} {k at : ℕ} {x : LineColumn} → k ≤ at → at ≤ k → StandsIn text k x → StandsIn text at x
-position_end {text} {k} {at} {x} a b old = let same : k ≡ at = omega arith in rw same at old
 
 -- The line and the column of the refusals of an item.
 pub line_of_item : (r : Reason) (text : List ℕ) (place : ℕ) → (r ≡ Form → ⊥) → (r ≡ Limits → ⊥)

@@ -52,6 +52,7 @@ pub fn position_at(text: &[u8], at: usize) -> LineColumn
 }
 
 // The line of a refusal.
+#[tactic(auto, using(crate::proofs::PositionLaws::line_of_item), unfolding(crate::specs::Position::line_of_refusal))]
 pub fn line_of(text: &[u8], x: Refusal) -> usize
     requires { x.place ≤ 65535 }
     ensures { (result ≡ line_of_refusal text.now (number_of x.reason) x.place) × (result ≤ 65536) }
@@ -72,6 +73,7 @@ fn field_column(field: usize) -> usize
 }
 
 // The column of a refusal; of 3, 5 and 17 that of the field of the item's line that is the cause.
+#[tactic(auto, using(crate::proofs::PositionLaws::column_of_item), unfolding(crate::specs::Position::column_of_refusal))]
 pub fn column_of(text: &[u8], x: Refusal, field: usize) -> usize
     requires { (x.place ≤ 65535) × (field ≤ 10) }
     ensures { (result ≡ column_of_refusal text.now (number_of x.reason) x.place field) × (result ≤ 400000) }
