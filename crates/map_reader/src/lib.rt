@@ -3,6 +3,7 @@
 
 mod build;
 mod letters;
+mod line;
 mod problems;
 mod rows;
 mod tokens;
