@@ -8,6 +8,7 @@ use crate::problems::Problem;
 use crate::tokens;
 
 // The places of the table.
+// Kept: numbers, since `is_thing` of specs/Marks.antt, under the clause `tells` of `print`, reads the table as numbers.
 pub const LETTERS: usize = 442;
 
 // Reads the marks of a letter's line from its third byte on into 16 places, which are empty before; the column behind its newline is

@@ -69,6 +69,7 @@ fn rows_from(text: &[u8], first: usize, w: usize, marks: &mut [u8]) -> Result<Sh
     let mut at = first;
     let mut height: usize = 0;
     let mut cells: usize = 0;
+    // Kept: the loop goes from line to line, and a `for` over the rows would end in two places.
     while at < text.len() {
         let line = Line {
             text,
