@@ -2,11 +2,11 @@
 use Prim.Native.Nat.{ℕ, ◌-◌, ◌≤◌, ◌<◌, min}
 use native.Mathlib.Omega.{arith}
 use mathlib.Core.List.{List}
-use mathlib.Core.Path.{◌≡◌, refl, ap}
+use mathlib.Core.Path.{◌≡◌, refl, sym, ap}
 use lib.ListN.{length, get_or}
 use borrow.Author.Tests.{le-leb, lt-leb, eq-eqb, ne_eqb}
 use Rattle.laws.specs.Memory.{part}
-use Rattle.laws.specs.Verdict.{Verdict, passed, refused, demand, Outcome, value, refusal, ◌gives◌}
+use Rattle.laws.specs.Verdict.{Verdict, passed, refused, demand, value, ◌gives◌}
 use Rattle.laws.proofs.VerdictLaws.{then_both, demand_holds, demand_on, demand_ends}
 use Rattle.floor.specs.declared.Floor.{Floor}
 use Rattle.floor.specs.Checks.{check_of, long_enough, carriers_of, walls_of, rising_of, places_of}
@@ -18,6 +18,10 @@ use Rattle.route.specs.Arrival.{arrival_of}
 use Rattle.legality.specs.Tests.{blank_test, route_test, record_test}
 use Rattle.legality.specs.Entry.{RecordAnswer, a_route, a_none, not_heard, wrong, record_kind, record_answer, ◌or_wrong◌}
 use Rattle.legality.specs.Entry.{record_verdict, arrival_outcome}
+use Rattle.legality.specs.declared.Fault.{Fault}
+use Rattle.legality.specs.declared.Record.TheVariants.{Wrong}
+use Rattle.legality.specs.Answers.{test_of, record_meant}
+use Rattle.std.specs.Prelude.{Ok, Err, ⊤}
 use Rattle.legality.specs.Inner.{RecordChecked}
 
 -- A check of a record that passes its refusals: the floor's are passed, 65 numbers are lent, and the carrier is there.
@@ -93,21 +97,27 @@ module _ (tag a : ℕ) where
 
 -- The arrival of a lent route: 9, or its value.
 module _ (r : List ℕ) (horizon : ℕ) where
-  pub short_cells : length r < 64 → refusal 9 0 ≡ arrival_outcome r horizon
-  unfolding arrival_outcome long_enough demand ◌gives◌
-  short_cells l = rw (lt-leb 64 (length r) l) refl
-
   pub lent_cells : {a : ℕ} → a ≡ arrival_of (part r 0 64) (min horizon 63) → 64 ≤ length r → value a ≡ arrival_outcome r horizon
   unfolding arrival_outcome long_enough demand ◌gives◌
   lent_cells e l = rw (le-leb 64 (length r) l) (ap value e)
 
 -- The answer of a record whose tests find nothing, and of one with a test that fails.
 module _ (task : Task) (m : List ℕ) {cells : List ℕ} (same : cells ≡ part m 1 64) where
-  pub answer_passed : {x : Outcome RecordAnswer} → record_test task (get_or m 0 0) cells ≡ passed →
-      x ≡ value (record_kind (get_or m 0 0) (arrival_of cells task.horizon)) → x ≡ value (record_answer task m)
+  pub answer_passed : {x : RecordAnswer} → record_test task (get_or m 0 0) cells ≡ passed →
+      x ≡ record_kind (get_or m 0 0) (arrival_of cells task.horizon) → x ≡ record_answer task m
   unfolding record_answer ◌or_wrong◌
   answer_passed e h = rw (← same, e) h
 
-  pub answer_wrong : {k t : ℕ} → record_test task (get_or m 0 0) cells ≡ refused k t → value (wrong k t) ≡ value (record_answer task m)
+  pub answer_wrong : {k t : ℕ} → record_test task (get_or m 0 0) cells ≡ refused k t → wrong k t ≡ record_answer task m
   unfolding record_answer ◌or_wrong◌
   answer_wrong e = rw (← same, e) refl
+
+  -- The same where the code met it.
+  pub answer_met : {x : RecordAnswer} {u : ⊤} → test_of (Ok u) ≡ record_test task (get_or m 0 0) cells →
+      x ≡ record_kind (get_or m 0 0) (arrival_of cells task.horizon) → x ≡ record_answer task m
+  unfolding test_of
+  answer_met e h = answer_passed (sym e) h
+
+  pub wrong_met : (x : Fault) → test_of (Err x) ≡ record_test task (get_or m 0 0) cells → record_meant (Wrong x) ≡ record_answer task m
+  unfolding test_of record_meant
+  wrong_met x e = answer_wrong (sym e)

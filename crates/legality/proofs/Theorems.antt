@@ -88,7 +88,7 @@ module _ (f : Floor) (ws : List ℕ) (i : ℕ) (m : List ℕ) where
   unfolding record_outcome task_of
   tells y t =
       gives_passed (granted t.request)
-      ∙ sym (answer_passed (task_of f ws i) m refl t.tests (ap value (sym t.kind)))
+      ∙ sym (ap value (answer_passed (task_of f ws i) m refl t.tests (sym t.kind)))
 
   long_part : RecordGranted f ws i m → length (part m 1 64) ≡ 64
   long_part a = part_length m 1 64 (omega (arith, a.lent))
@@ -164,7 +164,7 @@ module _ (f : Floor) (ws : List ℕ) (i : ℕ) (m : List ℕ) where
   unfolding record_outcome
   wrong_tells k t a h =
       gives_passed (granted a)
-      ∙ sym (answer_wrong (task_of f ws i) m refl (fault_test (task_of f ws i) (get_or m 0 0) (part m 1 64) k t h))
+      ∙ sym (ap value (answer_wrong (task_of f ws i) m refl (fault_test (task_of f ws i) (get_or m 0 0) (part m 1 64) k t h)))
 
 -- What a search answers is a route of the carrier.
 found : (f : Floor) (ws : List ℕ) (i : ℕ) (m r : List ℕ) → search_of f ws i m ≡ answered (route r) →

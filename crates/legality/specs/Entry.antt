@@ -1,17 +1,13 @@
 -- The check of a record and the arrival of a lent route as entries: their refusals in order, and their answers. Carriers count from 1.
 use Rattle.std.specs.Prelude.{ℕ, min, true, false, List, eqb, length, get_or}
 use Rattle.laws.specs.Memory.{part}
-use Rattle.laws.specs.Verdict.{Verdict, passed, refused, ◌then◌, demand, Outcome, value, refusal, ◌gives◌}
+use Rattle.laws.specs.Verdict.{Verdict, passed, refused, ◌then◌, demand, Outcome, ◌gives◌}
 use Rattle.floor.specs.declared.Floor.{Floor}
 use Rattle.floor.specs.Checks.{check_of, long_enough, within}
 use Rattle.route.specs.Route.{Task}
 use Rattle.route.specs.Arrival.{arrival_of}
 use Rattle.search.specs.Task.{task_of}
 use Rattle.legality.specs.Tests.{record_test}
-use Rattle.legality.specs.declared.Legality.{Legality}
-use Rattle.legality.specs.declared.Legality.TheVariants.{Route, None, NotHeard, Wrong, Refused}
-use Rattle.legality.specs.declared.Arrived.{Arrived}
-use Rattle.legality.specs.declared.Arrived.TheVariants.{At, Refused as NotDated}
 
 -- What a record is: a route with its arrival, none, not heard, or no record of the carrier, with a cause (`Tests`) and its beat.
 pub data RecordAnswer : Type 0 where
@@ -46,15 +42,3 @@ record_outcome f ws carrier m = record_verdict f ws carrier (length m) gives rec
 -- What the arrival of a lent route answers: 9 if it has fewer than 64 numbers; a horizon above 63 counts as 63.
 unfoldable pub arrival_outcome : List ℕ → ℕ → Outcome ℕ
 arrival_outcome r horizon = long_enough 64 (length r) gives arrival_of (part r 0 64) (min horizon 63)
-
--- What each case of the code's answers says.
-unfoldable pub legality_outcome : Legality → Outcome RecordAnswer
-legality_outcome (Route a) = value (a_route a)
-legality_outcome None = value a_none
-legality_outcome NotHeard = value not_heard
-legality_outcome (Wrong x) = value (wrong x.cause x.beat)
-legality_outcome (Refused r) = refusal r.number r.place
-
-unfoldable pub arrived_outcome : Arrived → Outcome ℕ
-arrived_outcome (At a) = value a
-arrived_outcome (NotDated r) = refusal r.number r.place

@@ -2,6 +2,7 @@
 -- functions are proved against.
 pub mod Tests
 pub mod Entry
+pub mod Answers
 pub mod Faults
 pub mod Claims
 pub mod Inner

@@ -14,10 +14,7 @@ pub fn is_free(f: Floor, walls: &[u16], c: u16) -> bool
     requires strictly_rising { StrictlyRising walls.now f.walls }
     ensures { result ≡ free_on f walls.now c }
 {
-    if f.width * f.height <= c {
-        return false;
-    }
-    !floor::is_wall(walls, f.walls as usize, c)
+    c < f.width * f.height && !floor::is_wall(walls, f.walls as usize, c)
 }
 
 // Whether c is one of the docks of carrier i, counted from 0.
@@ -28,34 +25,21 @@ pub fn is_dock(f: Floor, i: usize, c: u16) -> bool
 {
     let docks = floor::docks_of(f, i);
     let n = f.counts[i] as usize;
-    let mut k: usize = 0;
-    while k < n {
-        if docks[k] == c {
-            return true;
-        }
-        k += 1;
-    }
-    false
+    docks[..n].contains(&c)
 }
 
 // Whether one number is the other plus 1.
 fn neighbours(k: u16, n: u16) -> bool
     ensures { result ≡ neighbours k n }
 {
-    if k as usize == n as usize + 1 {
-        return true;
-    }
-    n as usize == k as usize + 1
+    k.abs_diff(n) == 1
 }
 
 // Whether two cells are of one line, a and b, and side by side in it, at x and y.
 fn in_line(a: u16, b: u16, x: u16, y: u16) -> bool
     ensures { result ≡ (eqb a b && neighbours x y) }
 {
-    if a != b {
-        return false;
-    }
-    neighbours(x, y)
+    a == b && neighbours(x, y)
 }
 
 // Whether d is c or shares a side with c in a grid of width w.
@@ -63,14 +47,11 @@ pub fn near(w: u16, c: u16, d: u16) -> bool
     requires { 1 ≤ w }
     ensures { result ≡ near w c d }
 {
-    if d == c {
-        return true;
-    }
     let row = c / w;
     let column = c % w;
     let next_row = d / w;
     let next_column = d % w;
-    if in_line(row, next_row, column, next_column) {
+    if d == c || in_line(row, next_row, column, next_column) {
         return true;
     }
     in_line(column, next_column, row, next_row)

@@ -1,11 +1,11 @@
 -- `legality::beats::record_test` meets its contract: the tag decides which tests are made.
 use Rattle.legality.proofs.EntryLaws.{tag_fails, tag_route, tag_blank}
-use Rattle.floor.specs.Answers.{verdict_of}
+use Rattle.legality.specs.Answers.{test_of}
 use mathlib.Core.Path.{refl}
 use Rattle.legality.proofs.beats.record_test.Goals as goal
 
 pub returns-then-tag-gt2 : goal.returns-then-tag-gt2
-unfolding verdict_of
+unfolding test_of
 returns-then-tag-gt2 c = tag_fails _ _ _ c.if-tag-gt2.true refl
 
 pub returns-then-tag-eq2 : goal.returns-then-tag-eq2

@@ -1,22 +1,22 @@
 -- `legality::beats::stands` meets its contract: invariant: the beats passed are at free cells.
 use Rattle.legality.proofs.TestLaws.{beats}
-use Rattle.floor.specs.Answers.{verdict_of}
+use Rattle.legality.specs.Answers.{test_of}
 use Rattle.route.specs.Route.{cell_at}
 use Rattle.legality.specs.Tests.{cells_test}
 use Rattle.legality.proofs.beats.stands.Goals as goal
 
 pub loop-t-init : goal.loop-t-init
-unfolding verdict_of cells_test cell_at
+unfolding test_of cells_test cell_at
 loop-t-init c = search beats
 
 pub returns-then-not-is_free : goal.returns-then-not-is_free
-unfolding verdict_of cells_test cell_at
+unfolding test_of cells_test cell_at
 returns-then-not-is_free c = search beats
 
 pub loop-t-preserved : goal.loop-t-preserved
-unfolding verdict_of cells_test cell_at
+unfolding test_of cells_test cell_at
 loop-t-preserved c = search beats
 
 pub returns : goal.returns
-unfolding verdict_of cells_test cell_at
+unfolding test_of cells_test cell_at
 returns c = search beats

@@ -2,8 +2,8 @@
 use Rattle.laws.proofs.CodeTests.{decides}
 use Rattle.legality.proofs.places.in_line.Goals as goal
 
+pub returns-else-a-b : goal.returns-else-a-b
+returns-else-a-b c = search decides
+
 pub returns-then-a-b : goal.returns-then-a-b
 returns-then-a-b c = search decides
-
-pub returns : goal.returns
-returns c = search decides

@@ -10,10 +10,10 @@ pub overflow_mul-f : goal.overflow_mul-f
 overflow_mul-f c =
     record { fits = lt_of_le_of_lt (mul-le-mul c.requires.width_bound.0 c.requires.width_bound.1) (lit< tt) }
 
-pub returns-then-f-c : goal.returns-then-f-c
+pub returns-else-c-f : goal.returns-else-c-f
 unfolding free_on in_grid
-returns-then-f-c c = search decides
+returns-else-c-f c = search decides
 
-pub returns : goal.returns
+pub returns-then-c-f : goal.returns-then-c-f
 unfolding free_on in_grid
-returns c = search decides
+returns-then-c-f c = search decides

@@ -1,9 +1,6 @@
--- `legality::places::neighbours` meets its contract.
-use Rattle.legality.proofs.TestLaws.{next_above, next_below}
+-- `legality::places::neighbours` meets its contract: they are 1 apart.
+use Rattle.legality.proofs.TestLaws.{side_by_side}
 use Rattle.legality.proofs.places.neighbours.Goals as goal
 
-pub returns-then-k-n : goal.returns-then-k-n
-returns-then-k-n c = search next_above
-
 pub returns : goal.returns
-returns c = search next_below
+returns c = rw c.abs_diff.ensures (side_by_side c.args.k c.args.n)
