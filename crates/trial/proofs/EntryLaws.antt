@@ -1,14 +1,10 @@
 -- What passed checks of a trial tell, what its memory is at the start and at the end, and what one more step comes to.
 use Rattle.std.proofs.Common.{◌≡◌, ℕ, ◌+◌, ◌*◌, ◌<◌, ◌≤◌, List, [], ◌∷◌, ◌++◌, drop, sym, ap, ◌∙◌, zero-add, arith}
-use Rattle.laws.specs.Verdict.{passed}
+use Rattle.laws.specs.Verdict.{passed, refused, ◌then◌, demand}
 use Rattle.laws.specs.Memory.{put}
-use Rattle.laws.proofs.VerdictLaws.{then_both}
+use Rattle.laws.proofs.VerdictLaws.{then_both, then_assoc, then_passed, then_refused}
 use Rattle.floor.specs.declared.Floor.{Floor}
-use Rattle.floor.specs.declared.Checked.{Checked}
-use Rattle.floor.specs.declared.Checked.TheVariants.{Passed}
-use Rattle.floor.specs.Answers.{verdict_of}
-use Rattle.floor.proofs.AnswersLaws.{passes}
-use Rattle.floor.specs.Checks.{check_of, long_enough}
+use Rattle.floor.specs.Checks.{within, check_of, long_enough}
 use Rattle.floor.proofs.LimitsLaws.{limited_bounds, length_passed}
 use Rattle.floor.proofs.Theorems.{theorems}
 use Rattle.reference.specs.State.{State, fresh}
@@ -26,7 +22,7 @@ use Rattle.orders.specs.Orders.{Order, round, places, step_at, remembered}
 use Rattle.orders.proofs.RuleLaws.{Memory}
 use Rattle.trial.specs.Report.{number_of, answer_number, report_size}
 use Rattle.trial.specs.Entry.{trial_verdict}
-use Rattle.trial.specs.Inner.{chosen_in, Advanced}
+use Rattle.trial.specs.Inner.{chosen_in, Advanced, room_verdict}
 
 -- An accepted floor has one to eight carriers.
 pub checked_carriers : (f : Floor) (ws : List ℕ) → check_of f ws ≡ passed → (1 ≤ f.carriers) × (f.carriers ≤ 8)
@@ -38,23 +34,32 @@ pub record TrialGranted (f : Floor) (ws : List ℕ) (state report : ℕ) : Type 
   pub placed : Placed f ws state
   pub wide : report_size f.carriers ≤ report
 
-pub trial_tells : (f : Floor) (ws : List ℕ) (order state report : ℕ) → trial_verdict f ws order state report ≡ passed →
-    TrialGranted f ws state report
-unfolding trial_verdict place_verdict
-trial_tells f ws order state report h =
+pub trial_tells : (f : Floor) (ws : List ℕ) (state report : ℕ) → room_verdict f ws state report ≡ passed → TrialGranted f ws state report
+unfolding room_verdict place_verdict
+trial_tells f ws state report h =
     let a = then_both _ _ h in
-    let b = then_both _ _ a.1 in
-    record { checked = (then_both _ _ a.0).0; placed = place_tells f ws state a.0; wide = length_passed _ _ b.0 }
+    record { checked = (then_both _ _ a.0).0; placed = place_tells f ws state a.0; wide = length_passed _ _ a.1 }
+
+-- The refusals of a trial: those of its room, then that of its order.
+module _ (f : Floor) (ws : List ℕ) (order state report : ℕ) where
+  parts : trial_verdict f ws order state report ≡ (room_verdict f ws state report then demand (within 1 3 order) 11 0)
+  unfolding trial_verdict room_verdict
+  parts =
+      sym (then_assoc (place_verdict f ws state) (long_enough (report_size f.carriers) report) (demand (within 1 3 order) 11 0))
+
+  pub room_refuses : {k p : ℕ} → room_verdict f ws state report ≡ refused k p → trial_verdict f ws order state report ≡ refused k p
+  room_refuses h = parts ∙ then_refused _ h
+
+  pub order_decides : room_verdict f ws state report ≡ passed → trial_verdict f ws order state report ≡ demand (within 1 3 order) 11 0
+  order_decides h = parts ∙ then_passed h
 
 -- The length of a report, as the code asks for it behind a check of the floor and its state that passed.
-pub report_length_lem : {x : Checked} (y : Checked) (f : Floor) (ws : List ℕ) (state most report : ℕ) → verdict_of x ≡ place_verdict f ws state →
-    x ≡ Passed →
-    (1 ≤ f.carriers → f.carriers ≤ 8 → most ≡ ceiling f.carriers) × (most ≤ 512) → verdict_of y ≡ long_enough (2 * most) report →
-    verdict_of y ≡ long_enough (report_size f.carriers) report
+pub report_length_lem : (f : Floor) (ws : List ℕ) (state most : ℕ) → place_verdict f ws state ≡ passed
+    → (1 ≤ f.carriers → f.carriers ≤ 8 → most ≡ ceiling f.carriers) × (most ≤ 512) → 2 * most ≡ report_size f.carriers
 unfolding report_size
-report_length_lem y f ws state most report v e m h =
-    let n = (placed_bounds (place_tells f ws state (passes v e))).carriers in
-    h ∙ rw (m.0 n.0 n.1)
+report_length_lem f ws state most v m =
+    let n = (placed_bounds (place_tells f ws state v)).carriers in
+    rw (m.0 n.0 n.1)
 
 -- Line t of a report is within its needed length.
 pub report_left : (n t most wide lent : ℕ) → most ≡ ceiling n → t < most → report_size n ≤ lent → wide ≡ lent → 2 * t + 2 ≤ wide

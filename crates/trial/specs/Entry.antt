@@ -1,14 +1,16 @@
 -- The trial as an entry: its refusals in order, its answer, and the lent memory after it.
-use Rattle.std.specs.Prelude.{ℕ, cond, List, length, ◌==◌}
-use Rattle.laws.specs.Verdict.{Verdict, Outcome, value, refusal, ◌then◌, demand, ◌gives◌, when_passed}
+use Rattle.std.specs.Prelude.{◌≡◌, ℕ, cond, List, length, Result, ◌==◌}
+use Rattle.laws.specs.Verdict.{Verdict, Outcome, ◌then◌, demand, ◌gives◌, when_passed}
 use Rattle.laws.specs.Memory.{put}
 use Rattle.floor.specs.declared.Floor.{Floor}
+use Rattle.floor.specs.declared.Refusal.{Refusal}
+use Rattle.floor.specs.Answers.{outcome_by}
 use Rattle.floor.specs.Checks.{within, long_enough}
 use Rattle.encoding.specs.Calls.{machine_of, place_verdict, with_state}
 use Rattle.orders.specs.Orders.{Order, first, round, drawn}
 use Rattle.orders.specs.Trial.{TrialResult, trial}
-use Rattle.trial.specs.declared.Tried.{Tried}
-use Rattle.trial.specs.declared.Tried.TheVariants.{Steps, Refused}
+use Rattle.trial.specs.declared.choice.Order.{Order as CodeOrder}
+use Rattle.trial.specs.declared.choice.Order.TheVariants.{First, Round, Drawn}
 use Rattle.trial.specs.Report.{report_numbers, report_size}
 
 -- The order that a number from 1 to 3 names.
@@ -24,10 +26,18 @@ trial_verdict f ws order state report =
 unfoldable pub trial_of : Floor → List ℕ → (order seed : ℕ) → TrialResult
 trial_of f ws order seed = trial (order_by order) (machine_of f ws) seed
 
--- What each case of the code's answer says: the number of steps taken, or the refusal.
-unfoldable pub tried_outcome : Tried → Outcome ℕ
-tried_outcome (Steps t) = value t
-tried_outcome (Refused r) = refusal r.number r.place
+-- What each case of the code's order says, and what the code answers for a number: that number's order, or 11, 0.
+unfoldable pub order_meant : CodeOrder → Order
+order_meant First = first
+order_meant Round = round
+order_meant Drawn = drawn
+
+unfoldable pub OrderAsked : ℕ → Result CodeOrder Refusal → Type 0
+OrderAsked k x = outcome_by order_meant x ≡ (demand (within 1 3 k) 11 0 gives order_by k)
+
+-- What the code's answer says: the number of steps taken, or the refusal.
+abbrev pub tried_outcome : Result ℕ Refusal → Outcome ℕ
+tried_outcome x = outcome_by (λ t. t) x
 
 -- What the entry answers: as many steps as the trial takes.
 unfoldable pub trial_outcome : Floor → List ℕ → (order seed state report : ℕ) → Outcome ℕ

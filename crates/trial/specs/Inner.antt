@@ -2,12 +2,23 @@
 use Rattle.std.specs.Prelude.{◌≡◌, ℕ, ◌*◌, ◌%◌, Bool, List, [], ◌∷◌, length, slice_index}
 use Rattle.laws.specs.Memory.{put}
 use Rattle.floor.specs.declared.Floor.{Floor}
-use Rattle.encoding.specs.Calls.{machine_of}
+use Rattle.laws.specs.Verdict.{Verdict, ◌then◌}
+use Rattle.floor.specs.Checks.{long_enough}
+use Rattle.orders.specs.Trial.{TrialResult, trial}
+use Rattle.encoding.specs.Calls.{machine_of, place_verdict}
 use Rattle.encoding.specs.InnerSteps.{open_in, after_in, step_answer_in}
 use Rattle.steps.specs.Inner.{bare}
 use Rattle.orders.specs.Generator.{drawn_by}
 use Rattle.orders.specs.Orders.{Order, first, round, drawn, places, step_at, passing, remembered}
-use Rattle.trial.specs.Report.{number_of, answer_number}
+use Rattle.trial.specs.Report.{number_of, answer_number, report_size}
+
+-- The refusals of a trial but that of its order: the floor's, 9 for the lent state, 9 for the lent report.
+unfoldable pub room_verdict : Floor → List ℕ → (state report : ℕ) → Verdict
+room_verdict f ws state report = place_verdict f ws state then long_enough (report_size f.carriers) report
+
+-- The trial of a floor's machine in an order.
+unfoldable pub trial_by : Floor → List ℕ → Order → (seed : ℕ) → TrialResult
+trial_by f ws o seed = trial o (machine_of f ws) seed
 
 -- The step at a place is open, as memory m shows it.
 unfoldable pub opens_in : Floor → List ℕ → ℕ → Bool

@@ -9,55 +9,25 @@ mod play;
 
 ghost use Rattle.std.specs.Prelude.{◌≡◌, length};
 ghost use Rattle.floor.specs.Answers.{verdict_of};
-ghost use Rattle.laws.specs.Verdict.{demand};
-ghost use Rattle.floor.specs.Checks.{within};
-ghost use Rattle.trial.specs.Entry.{trial_verdict, tried_outcome, trial_outcome, state_tried, report_tried};
+ghost use Rattle.trial.specs.Inner.{room_verdict};
+ghost use Rattle.trial.specs.Entry.{tried_outcome, trial_outcome, state_tried, report_tried};
 
-use floor::{Checked, Floor, Refusal};
+pub use choice::Order;
+use floor::{Floor, Refusal};
 pub use places::{answer_number, count, number_of, step_at};
 pub use play::most_steps;
 
-// The answer to a trial.
-#[derive(Clone, Copy)]
-pub enum Tried {
-    // The number of steps taken, as many as the report has entries.
-    Steps(usize),
-    // Refused.
-    Refused(Refusal),
-}
-
-// 11: an order other than 1 to 3.
-fn known(order: u16) -> Checked
-    ensures { verdict_of result ≡ demand (within 1 3 order) 11 0 }
+// The refusals of a trial but that of its order: the floor's, 9 for the state, 9 for the report.
+fn roomy(f: Floor, walls: &[u16], state: usize, report: usize) -> Result<(), Refusal>
+    ensures { verdict_of result ≡ room_verdict f walls.now state report }
 {
-    if order >= 1 {
-        if order <= 3 {
-            return Checked::Passed;
-        }
-    }
-    Checked::Refused(Refusal {
-        number: 11,
-        place: 0,
-    })
-}
-
-// The refusals of a trial: the floor's, 9 for the state, 9 for the report, 11.
-fn ready(f: Floor, walls: &[u16], order: u16, state: usize, report: usize) -> Checked
-    ensures { verdict_of result ≡ trial_verdict f walls.now order state report }
-{
-    let placed = machine::lent_place(f, walls, state);
-    let Checked::Passed = placed else {
-        return placed;
-    };
-    let reported = floor::check_length(2 * play::most_steps(f.carriers as usize), report);
-    let Checked::Passed = reported else {
-        return reported;
-    };
-    known(order)
+    machine::lent_place(f, walls, state)?;
+    floor::check_length(2 * play::most_steps(f.carriers as usize), report)
 }
 
 // Plays a whole run of a floor from fresh to silent in an order, 1 to 3; order 3 draws from the seed. The report gets two
-// numbers a step: the step's number, and its answer, 0 kept, 1 sent, 2 delivered. The state is the silent one afterwards.
+// numbers a step: the step's number, and its answer, 0 kept, 1 sent, 2 delivered. The state is the silent one afterwards. The number
+// of steps taken is answered, as many as the report has entries.
 pub fn trial(
     f: Floor,
     walls: &[u16],
@@ -65,7 +35,7 @@ pub fn trial(
     seed: u32,
     state: &mut [u16],
     report: &mut [u16],
-) -> Tried
+) -> Result<usize, Refusal>
     ensures answers { tried_outcome result ≡
         trial_outcome f walls.now order seed (length state.old) (length report.old) }
     ensures stores { state.new ≡
@@ -73,9 +43,7 @@ pub fn trial(
     ensures reports { report.new ≡
         report_tried f walls.now order seed (length state.old) report.old }
 {
-    let checked = ready(f, walls, order, state.len(), report.len());
-    let Checked::Refused(x) = checked else {
-        return Tried::Steps(play::play(f, walls, order, seed, state, report));
-    };
-    Tried::Refused(x)
+    roomy(f, walls, state.len(), report.len())?;
+    let order = Order::try_from(order)?;
+    Ok(play::play(f, walls, order, seed, state, report))
 }

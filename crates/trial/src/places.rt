@@ -25,19 +25,22 @@ pub fn step_at(n: usize, p: usize) -> Step
     if p < n {
         return Step::Plan(p);
     }
-    let mut j: usize = 0;
     let mut d: usize = p - n;
-    while d >= n - (j + 1) {
-        d -= n - (j + 1);
-        j += 1;
+    for j in 0..n {
+        let below = n - (j + 1);
+        if d < below {
+            return Step::Deliver {
+                from: j,
+                to: j + 1 + d,
+            };
+        }
+        d -= below;
     }
-    Step::Deliver {
-        from: j,
-        to: j + 1 + d,
-    }
+    unreachable!()
 }
 
 // Plan i as a number, 100 + i with carriers counted from 1.
+#[tactic(auto, unfolding(crate::specs::Report::number_of))]
 fn plan_number(i: usize) -> u16
     requires { i < 8 }
     ensures { result ≡ number_of (plan i) }
@@ -46,6 +49,7 @@ fn plan_number(i: usize) -> u16
 }
 
 // Deliver j to i as a number, 200 + 10 j + i with carriers counted from 1.
+#[tactic(auto, unfolding(crate::specs::Report::number_of))]
 fn delivery_number(j: usize, i: usize) -> u16
     requires { (j < 8) × (i < 8) }
     ensures { result ≡ number_of (deliver j i) }
@@ -65,6 +69,7 @@ pub fn number_of(f: Floor, x: Step) -> u16
 }
 
 // The answer of a step as a number: 0 kept, 1 sent, 2 delivered.
+#[tactic(auto, unfolding(steps::specs::Answers::taken_meant, crate::specs::Report::answer_number))]
 pub fn answer_number(x: Taken) -> u16
     ensures { result ≡ answer_number (taken_meant x) }
 {

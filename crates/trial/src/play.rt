@@ -11,21 +11,18 @@ ghost use Rattle.encoding.specs.Calls.{with_state};
 ghost use Rattle.steps.specs.Inner.{Workable};
 ghost use Rattle.orders.specs.Orders.{round, places};
 ghost use Rattle.trial.specs.Report.{report_numbers, report_size};
-ghost use Rattle.trial.specs.Entry.{order_by, trial_verdict, trial_of};
-ghost use Rattle.trial.specs.Inner.{open_count, Advanced};
+ghost use Rattle.trial.specs.Entry.{order_meant};
+ghost use Rattle.trial.specs.Inner.{open_count, Advanced, trial_by, room_verdict};
 
+use crate::choice::Order;
 use floor::Floor;
-use machine::Most;
+use search::Rows;
 
 // The ceiling for n carriers; 0 where there are none.
 pub fn most_steps(n: usize) -> usize
     ensures { (1 ≤ n → n ≤ 8 → result ≡ ceiling n) × (result ≤ 512) }
 {
-    let most = machine::ceiling(n);
-    let Most::Steps(t) = most else {
-        return 0;
-    };
-    t
+    machine::ceiling(n).unwrap_or(0)
 }
 
 // Line t of the report.
@@ -42,8 +39,8 @@ fn write_line(report: &mut [u16], t: usize, number: u16, answer: u16)
 fn advance(
     f: Floor,
     walls: &[u16],
-    free: [u32; 32],
-    order: u16,
+    free: Rows,
+    order: Order,
     kept: u32,
     candidates: usize,
     t: usize,
@@ -51,10 +48,10 @@ fn advance(
     report: &mut [u16],
 ) -> u32
     requires candidates_value { (candidates ≡ open_count f m.old (places f.carriers)) × (0 < candidates) }
-    requires kept_bound { order_by order ≡ round → kept ≤ places f.carriers }
+    requires kept_bound { order_meant order ≡ round → kept ≤ places f.carriers }
     requires workable { Workable f walls.now free m.old }
     requires t_bound { (t < 512) × (2 * t + 2 ≤ length report.old) }
-    ensures { Advanced (order_by order) f walls.now m.old report.old kept t result
+    ensures { Advanced (order_meant order) f walls.now m.old report.old kept t result
         m.new report.new }
 {
     let p = crate::choice::choose(f, m, order, kept, candidates);
@@ -69,8 +66,8 @@ fn advance(
 fn take_all(
     f: Floor,
     walls: &[u16],
-    free: [u32; 32],
-    order: u16,
+    free: Rows,
+    order: Order,
     seed: u32,
     m: &mut [u16],
     report: &mut [u16],
@@ -79,41 +76,39 @@ fn take_all(
     requires workable { Workable f walls.now free m.old }
     requires m_value { m.old ≡ encode f.carriers fresh ++ drop (state_size f.carriers) m.old }
     requires carriers_in_bounds { report_size f.carriers ≤ length report.old }
-    ensures answers { result ≡ length (trial_of f walls.now order seed).report }
+    ensures answers { result ≡ length (trial_by f walls.now (order_meant order) seed).report }
     ensures stores { m.new ≡
-        encode f.carriers (trial_of f walls.now order seed).state ++ drop (state_size f.carriers) m.old }
+        encode f.carriers (trial_by f walls.now (order_meant order) seed).state ++ drop (state_size f.carriers) m.old }
     ensures reports { report.new ≡
-        put report.old 0 (report_numbers (trial_of f walls.now order seed).report) }
+        put report.old 0 (report_numbers (trial_by f walls.now (order_meant order) seed).report) }
 {
     let all = crate::places::count(f.carriers as usize);
     let most = most_steps(f.carriers as usize);
     let mut c = crate::choice::start(order, seed);
-    let mut t: usize = 0;
-    while t < most {
+    for t in 0..most {
         let candidates = crate::choice::count_open(f, m, all);
         if candidates == 0 {
             return t;
         }
         c = advance(f, walls, free, order, c, candidates, t, m, report);
-        t += 1;
     }
-    t
+    most
 }
 
 // Plays the trial of a checked floor in checked memory; the number of steps taken.
 pub fn play(
     f: Floor,
     walls: &[u16],
-    order: u16,
+    order: Order,
     seed: u32,
     m: &mut [u16],
     report: &mut [u16],
 ) -> usize
-    requires { trial_verdict f walls.now order (length m.old) (length report.old) ≡ passed }
-    ensures answers { result ≡ length (trial_of f walls.now order seed).report }
-    ensures stores { m.new ≡ with_state f m.old (trial_of f walls.now order seed).state }
+    requires { room_verdict f walls.now (length m.old) (length report.old) ≡ passed }
+    ensures answers { result ≡ length (trial_by f walls.now (order_meant order) seed).report }
+    ensures stores { m.new ≡ with_state f m.old (trial_by f walls.now (order_meant order) seed).state }
     ensures reports { report.new ≡
-        put report.old 0 (report_numbers (trial_of f walls.now order seed).report) }
+        put report.old 0 (report_numbers (trial_by f walls.now (order_meant order) seed).report) }
 {
     state::write_fresh(m, f.carriers as usize);
     let free = search::free_rows(f, walls);

@@ -1,10 +1,6 @@
-use Rattle.std.proofs.Common.{◌-◌}
 use Rattle.trial.specs.Inner.{opens_in}
 use Rattle.trial.proofs.CountLaws.{PassingCounted}
 use Rattle.trial.proofs.choice.count_open.Given as goal
 
 abbrev pub invariant-loop-p : goal.invariant-loop-p
 invariant-loop-p l = PassingCounted (opens_in l.f l.m) l.k l.p l.count
-
-abbrev pub decreases-loop-p : goal.decreases-loop-p
-decreases-loop-p l = l.k - l.p

@@ -25,8 +25,8 @@ loop-p-preserved c =
           (c.loop-p.invariant.0, counted_no _ _ _ _ c.loop-p.invariant.1 c.loop-p-test.true (tested ∙ w.if-open_at.false))
     ]
 
-pub returns : goal.returns
+pub unreachable-requires : goal.unreachable-requires
 unfolding open_count
-returns c =
+unreachable-requires c =
     found_none _ _ _ _ _ (rw (← c.count-all.ensures.0) at c.requires.i_bound) c.loop-p.invariant.1 c.loop-p.invariant.0
     c.loop-p-test.false

@@ -1,10 +1,7 @@
-use Rattle.std.proofs.Common.{◌-◌, ◌≤◌}
+use Rattle.std.proofs.Common.{◌≤◌}
 use Rattle.trial.specs.Inner.{opens_in}
 use Rattle.trial.proofs.CountLaws.{PassingCounted}
 use Rattle.trial.proofs.choice.place_at.Given as goal
 
 abbrev pub invariant-loop-p : goal.invariant-loop-p
 invariant-loop-p l = (l.before ≤ l.i) × PassingCounted (opens_in l.f l.m) l.all l.p l.before
-
-abbrev pub decreases-loop-p : goal.decreases-loop-p
-decreases-loop-p l = l.all - l.p

@@ -10,11 +10,9 @@ returns-then-p-n c = plan_is _ _ c.requires.1 c.if-p-n.true
 pub loop-j-init : goal.loop-j-init
 loop-j-init c = behind_start _ _ c.requires.1 c.if-p-n.false
 
-pub loop-j-preserved : goal.loop-j-preserved
-loop-j-preserved c =
-    behind_more _ _ c.requires.1 _ _ c.loop-j.invariant c.loop-j-test.true
-
-pub returns : goal.returns
+pub returns-then-d-below : goal.returns-then-d-below
 unfolding step_meant
-returns c =
-    behind_end _ _ c.requires.1 _ _ c.loop-j.invariant c.loop-j-test.false
+returns-then-d-below c = behind_end _ _ c.requires.1 _ _ c.loop-j.invariant c.if-d-below.true
+
+pub loop-j-preserved : goal.loop-j-preserved
+loop-j-preserved c = behind_more _ _ c.requires.1 _ _ c.loop-j.invariant c.if-d-below.false

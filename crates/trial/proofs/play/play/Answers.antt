@@ -6,16 +6,16 @@ use Rattle.trial.proofs.play.play.Goals as goal
 
 pub write_fresh-requires : goal.write_fresh-requires
 write_fresh-requires c =
-    placed_sized (trial_tells _ _ _ _ _ c.requires).placed
+    placed_sized (trial_tells _ _ _ _ c.requires).placed
 
 pub free_rows-free-requires : goal.free_rows-free-requires
 free_rows-free-requires c =
-    let both = placed_grid (trial_tells _ _ _ _ _ c.requires).placed in
+    let both = placed_grid (trial_tells _ _ _ _ c.requires).placed in
     record { le_width = both.0; walls_in_bounds = both.1 }
 
 pub take_all-requires : goal.take_all-requires
 take_all-requires c =
-    let lent = trial_tells _ _ _ _ _ c.requires in
+    let lent = trial_tells _ _ _ _ c.requires in
     let works : Workable _ _ _ c.args.m.now = record { placed = lent.placed; free = c.free_rows-free.ensures } in
     let works-then = workable_same c.write_fresh.auto.m works in record {
       walls_value = lent.checked;

@@ -1,10 +1,10 @@
--- `lister::node::after` meets its contract: the step at the place is open, so it can be taken; its numbers go behind the others.
+-- `lister::node::Node::after` meets its contract: the step at the place is open, so it can be taken; its numbers go behind the others.
 use mathlib.Core.Path.{◌∙◌, ap}
 use Rattle.steps.proofs.PlacedLaws.{placed_sized, rows_serve}
 use Rattle.trial.specs.Report.{answer_number}
 use Rattle.trial.proofs.StepLaws.{listed_there}
 use Rattle.lister.proofs.NodeLaws.{moved}
-use Rattle.lister.proofs.node.after.Goals as goal
+use Rattle.lister.proofs.node.Node.after.Goals as goal
 
 pub step_at-x-requires : goal.step_at-x-requires
 step_at-x-requires c =
@@ -26,4 +26,4 @@ returns c =
     moved _ _ _ _ _ _ _ _ _ c.step_at-x.ensures c.take-taken.ensures.stores c.take-taken.auto.m
     c.number_of-number.ensures
     (c.answer_number.ensures ∙ ap answer_number c.take-taken.ensures.answers)
-    c.with_step-longer.ensures.0
+    c.with_step-trail.ensures.0

@@ -1,8 +1,8 @@
--- `lister::node::root` meets its contract: the fresh state is written in front of the room for it.
+-- `lister::node::Node::root` meets its contract: the fresh state is written in front of the room for it.
 use native.Mathlib.Omega.{arith}
 use mathlib.Core.Path.{refl, sym, ◌∙◌}
 use Rattle.trial.proofs.EntryLaws.{front_fresh}
-use Rattle.lister.proofs.node.root.Goals as goal
+use Rattle.lister.proofs.node.Node.root.Goals as goal
 
 pub write_fresh-requires : goal.write_fresh-requires
 write_fresh-requires c =
