@@ -1,5 +1,5 @@
 // The entries on the floor and the walls of the setup, and what each answered.
-use commands::answers::{Answer, answer, checked};
+use commands::answers::{Answer, answered, checked};
 use commands::setup::{floor_of, walls_of};
 use floor::Refusal;
 use machine::{Ending, Run};
@@ -17,7 +17,7 @@ pub fn fresh(setup: &[u16], m: &mut [u16]) -> Answer {
 
 // A single step.
 pub fn step(setup: &[u16], m: &mut [u16], x: u16) -> Answer {
-    answer(machine::step(floor_of(setup), walls_of(setup), m, x), |taken| match taken {
+    answered(machine::step(floor_of(setup), walls_of(setup), m, x), |taken| match taken {
         Taken::Kept => Answer::Kept,
         Taken::Sent => Answer::Sent,
         Taken::Delivered => Answer::Delivered,
@@ -26,7 +26,7 @@ pub fn step(setup: &[u16], m: &mut [u16], x: u16) -> Answer {
 
 // A run.
 pub fn run(setup: &[u16], m: &mut [u16], list: &[u16], budget: u16) -> Answer {
-    answer(machine::run(floor_of(setup), walls_of(setup), m, list, budget), |run| match run.ending {
+    answered(machine::run(floor_of(setup), walls_of(setup), m, list, budget), |run| match run.ending {
         Ending::Silent => Answer::Silent(run.taken),
         Ending::Spent => Answer::Spent(run.taken),
         Ending::Ended => Answer::Ended(run.taken),
@@ -41,7 +41,7 @@ fn failing(setup: &[u16], m: &mut [u16]) -> Result<usize, Refusal> {
 
 // The sequential plan, into lent memory.
 pub fn plan(setup: &[u16], m: &mut [u16]) -> Answer {
-    answer(failing(setup, m), |k| Answer::Failing(k))
+    answered(failing(setup, m), |k| Answer::Failing(k))
 }
 
 // Whether a carrier has none in the sequential plan, which goes into lent memory.
@@ -68,7 +68,7 @@ pub fn shut_in<W: Write>(
 
 // The most steps of n carriers.
 pub fn ceiling(n: usize) -> Answer {
-    answer(machine::ceiling(n), |k| Answer::Steps(k))
+    answered(machine::ceiling(n), |k| Answer::Steps(k))
 }
 
 // The needed length of the floor's state, as the entry of needed lengths gives it; 0 where that refuses the floor.

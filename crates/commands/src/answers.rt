@@ -37,7 +37,7 @@ pub enum Answer {
 }
 
 // What an entry answered: a refusal, or what is made of its value.
-pub fn answer<T: Drop, F: FnOnce(T) -> Answer>(came: Result<T, Refusal>, made: F) -> Answer
+pub fn answered<T: Drop, F: FnOnce(T) -> Answer>(came: Result<T, Refusal>, made: F) -> Answer
     requires { (x : T) → F.pre made x }
 {
     match came {

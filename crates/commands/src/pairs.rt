@@ -56,7 +56,7 @@ fn tested(m: &[u16], horizon: u16, i: usize, j: usize) -> Pair {
 }
 
 // What the pair of carriers i and j is.
-fn pair(m: &[u16], horizon: u16, i: usize, j: usize) -> Pair {
+fn pair_of(m: &[u16], horizon: u16, i: usize, j: usize) -> Pair {
     if has_route(m, i) && has_route(m, j) {
         tested(m, horizon, i, j)
     } else {
@@ -69,7 +69,9 @@ fn count(setup: &[u16], m: &[u16], kind: Pair) -> usize {
     let carriers = wide_at(setup, 4);
     let horizon = at(setup, 2);
     let pairs = (0..64usize).map(|k| (k / 8, k % 8));
-    pairs.filter(|&(i, j)| i < carriers && j < i && pair(m, horizon, i, j) == kind).count()
+    pairs
+        .filter(|&(i, j)| i < carriers && j < i && pair_of(m, horizon, i, j) == kind)
+        .count()
 }
 
 // Whether no pair of routes is in conflict, by both tests.

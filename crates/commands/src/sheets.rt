@@ -1,5 +1,5 @@
 // Commands on sheets and floors. A text is a number of bytes of the script, from the line under the command's on.
-use crate::answers::{Answer, answer, checked};
+use crate::answers::{Answer, answered, checked};
 use crate::setup::{floor_of, walls_of};
 use floor::Floor;
 use testkit::bytes;
@@ -45,6 +45,9 @@ pub fn writing(text: &[u8], setup: &[u16]) -> Answer {
 pub fn printed(text: &[u8]) -> Answer {
     let n = field(text, 0);
     let mut page = bytes::page();
-    let came = answer(printing::routes(under(text, 0, n), &mut page), |n| Answer::Printed(n));
+    let came = answered(
+        printing::routes(under(text, 0, n), &mut page),
+        |n| Answer::Printed(n),
+    );
     came.only_if(same(&page, under(text, n, field(text, 1))))
 }
