@@ -3,12 +3,12 @@ use commands::answers::{Answer, answered, checked};
 use commands::setup::{floor_of, walls_of};
 use floor::Refusal;
 use machine::{Ending, Run};
+use std::io;
+use std::io::Write;
 use steps::Taken;
 use testkit::fields::field;
 use testkit::memory::narrow;
 use testkit::show;
-use std::io;
-use std::io::Write;
 
 // The fresh state, into lent memory.
 pub fn fresh(setup: &[u16], m: &mut [u16]) -> Answer {
@@ -17,20 +17,26 @@ pub fn fresh(setup: &[u16], m: &mut [u16]) -> Answer {
 
 // A single step.
 pub fn step(setup: &[u16], m: &mut [u16], x: u16) -> Answer {
-    answered(machine::step(floor_of(setup), walls_of(setup), m, x), |taken| match taken {
-        Taken::Kept => Answer::Kept,
-        Taken::Sent => Answer::Sent,
-        Taken::Delivered => Answer::Delivered,
-    })
+    answered(
+        machine::step(floor_of(setup), walls_of(setup), m, x),
+        |taken| match taken {
+            Taken::Kept => Answer::Kept,
+            Taken::Sent => Answer::Sent,
+            Taken::Delivered => Answer::Delivered,
+        },
+    )
 }
 
 // A run.
 pub fn run(setup: &[u16], m: &mut [u16], list: &[u16], budget: u16) -> Answer {
-    answered(machine::run(floor_of(setup), walls_of(setup), m, list, budget), |run| match run.ending {
-        Ending::Silent => Answer::Silent(run.taken),
-        Ending::Spent => Answer::Spent(run.taken),
-        Ending::Ended => Answer::Ended(run.taken),
-    })
+    answered(
+        machine::run(floor_of(setup), walls_of(setup), m, list, budget),
+        |run| match run.ending {
+            Ending::Silent => Answer::Silent(run.taken),
+            Ending::Spent => Answer::Spent(run.taken),
+            Ending::Ended => Answer::Ended(run.taken),
+        },
+    )
 }
 
 // The failing carrier of the sequential plan, 0 where all have routes; the plan into lent memory.

@@ -66,7 +66,11 @@ pub fn numbers(text: &[u8], setup: &[u16], m: &mut [u16]) -> Answer {
     let mut n: usize = 0;
     for x in 0..65536 {
         calls::fresh(setup, m);
-        if is_numbered(calls::step(setup, m, narrow(x)), field(text, 0), field(text, 1)) {
+        if is_numbered(
+            calls::step(setup, m, narrow(x)),
+            field(text, 0),
+            field(text, 1),
+        ) {
             n = n.saturating_add(1);
         }
     }

@@ -7,7 +7,8 @@ use testkit::fields::field;
 pub fn list(text: &[u8], setup: &[u16], m: &mut [u16]) -> Answer {
     let rank = field(text, 0) as u64;
     let total = field(text, 1) as u64;
-    answered(lister::run_of_rank(floor_of(setup), walls_of(setup), rank, m), |run| {
-        Answer::Steps(usize::from(run.steps)).only_if(run.total == total)
-    })
+    answered(
+        lister::run_of_rank(floor_of(setup), walls_of(setup), rank, m),
+        |run| { Answer::Steps(usize::from(run.steps)).only_if(run.total == total) },
+    )
 }

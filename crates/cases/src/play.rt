@@ -96,12 +96,7 @@ fn line<W: Write>(
     show::text(out, part(bytes, 0, size))?;
     set_desk(bytes, setup);
     set_memory(bytes, buffer);
-    let came = called(
-        out,
-        bytes,
-        setup,
-        front(buffer, wide_at(setup, 90)),
-    )?;
+    let came = called(out, bytes, setup, front(buffer, wide_at(setup, 90)))?;
     came.show(out)?;
     show::text(out, b"\n")?;
     Ok(plus(size, 1))

@@ -44,7 +44,11 @@ pub fn second_says(setup: &[u16], m: &[u16], from: usize, stride: usize) -> bool
 
 // One more where it holds, up to a million.
 fn counted(n: usize, holds: bool) -> usize {
-    if holds { n.saturating_add(1).min(1000000) } else { n }
+    if holds {
+        n.saturating_add(1).min(1000000)
+    } else {
+        n
+    }
 }
 
 impl Tally {
