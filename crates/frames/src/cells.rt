@@ -57,6 +57,7 @@ fn put_carrier(
     ensures { PutAt (present_of f t c i (answer_in own.now i)) out.old at out.new result }
 {
     let tag = SIZE * i;
+    // Kept: a record's tag is a number in the memory that C reads; 2 is that of a route.
     if own[tag] != 2 {
         return put_stranded(f, c, i, out, at);
     }

@@ -17,6 +17,7 @@ fn put_words(f: Floor, own: &[u16], i: usize, out: &mut [u8], at: usize) -> usiz
     ensures { PutAt (arrival_words f (answer_in own.now i)) out.old at out.new result }
 {
     let tag = SIZE * i;
+    // Kept: a record's tag is a number in the memory that C reads; 2 is that of a route.
     if own[tag] != 2 {
         return put_bytes(out, at, b" has no route and stays at its start\n");
     }

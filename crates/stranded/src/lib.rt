@@ -39,6 +39,7 @@ fn put_carrier(plan: &Plan, i: u16, out: &mut [u8], at: usize) -> usize
     ensures { PutAt (carrier_text plan.now.floor plan.now.walls.now i) out.old at out.new result }
 {
     let tag = SIZE * i as usize;
+    // Kept: a record's tag is a number in the memory that C reads; 2 is that of a route.
     if plan.own[tag] == 2 {
         return at;
     }
@@ -78,6 +79,7 @@ fn place(f: Floor, own: [u16; TEAM], k: usize) -> u16
     requires { (k < 8) × (length own ≡ 520) }
     ensures { result ≡ stranded_cell f own k }
 {
+    // Kept: a record's tag is a number in the memory that C reads; 2 is that of a route.
     if own[SIZE * k] == 2 {
         return 65535;
     }
