@@ -1,12 +1,12 @@
 -- The table of the free cells at each beat: rows laid beat by beat.
-use Prim.Native.Nat.{ℕ, ◌+◌, ◌*◌, ◌/◌, ◌%◌, ◌≤◌, ◌<◌}
+use Prim.Native.Nat.{ℕ, ◌+◌, ◌*◌, ◌-◌, ◌/◌, ◌%◌, ◌≤◌, ◌<◌}
 use native.Mathlib.Omega.{arith}
 use native.Mathlib.Nat.{eq-or-lt_of_le}
 use mathlib.Core.Bool.{true}
 use mathlib.Core.List.{List}
 use mathlib.Core.Logic.{inl, inr, ⊎_elim}
 use mathlib.Core.Path.{◌≡◌, refl, ap, ◌∙◌}
-use lib.ListN.{get_or, replicate, length-replicate}
+use lib.ListN.{length, get_or, replicate, length-replicate}
 use Rattle.laws.proofs.Lists.{zeros_at}
 use Rattle.laws.proofs.Tests.{lt_or_le, true_false_absurd}
 use Rattle.bitrows.specs.Words.{digit}
@@ -19,7 +19,7 @@ use Rattle.layers.proofs.RewriteLaws.{rewritten_rows}
 use Rattle.layers.proofs.WordLaws.{slot_low, row_of_slot}
 
 -- An empty table has the free rows at no beat.
-pub free_none : (free table : List ℕ) → table ≡ replicate 2049 0 → FreeBeats free 0 table
+free_none : (free table : List ℕ) → table ≡ replicate 2049 0 → FreeBeats free 0 table
 free_none free table e =
     rw e
     (record {
@@ -40,13 +40,17 @@ free_next free table after value n old same new =
       hidden = λ i l. new.outside i (inr (omega arith)) ∙ old.hidden i (omega arith);
     }
 
--- Written at one more beat.
-pub free_more : (free words table after : List ℕ) (n : ℕ) → n < 64 →
-    words ≡ filled (replicate 32 0) (λ j. get_or free (row_of j) 0) 32 → FreeBeats free n table → after ≡ written table (n * 32) words 32 →
-    FreeBeats free (n + 1) after
-free_more free words table after n few made old h =
-    free_next free table after (λ j. get_or free (row_of j) 0) n old (λ j l. refl)
-    (rewritten_rows table words after (λ j. get_or free (row_of j) 0) (n * 32) 32 (omega arith) (omega (arith, old.long)) made h)
+-- At the first beat; copied from the beat before.
+pub free_first : (free words table after : List ℕ) → words ≡ filled (replicate 32 0) (λ j. get_or free (row_of j) 0) 32 →
+    table ≡ replicate 2049 0 → after ≡ written table 0 words 32 → FreeBeats free 1 after
+free_first free words table after made e h =
+    free_next free table after (λ j. get_or free (row_of j) 0) 0 (free_none free table e) (λ j l. refl)
+    (rewritten_rows table words after (λ j. get_or free (row_of j) 0) 0 32 (omega arith)
+    (omega (arith, ap length e, length-replicate {A = ℕ} 2049 0)) made h)
+
+pub free_more : (free table after : List ℕ) (n : ℕ) → 1 ≤ n → FreeBeats free n table →
+    Rewritten table (λ j. get_or table ((n - 1) * 32 + j) 0) (n * 32) 32 after → FreeBeats free (n + 1) after
+free_more free table after n some old new = free_next free table after _ n old (λ j l. old.shown (n - 1) j (omega arith) l) new
 
 module _ (free table : List ℕ) (n : ℕ) where
   -- A row of a beat is the free row.

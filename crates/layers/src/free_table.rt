@@ -5,6 +5,7 @@ ghost use Rattle.layers.specs.Table.{Grid, Fits, Tidy, row_of};
 ghost use Rattle.layers.specs.FreeTable.{IsFreeTable, OneMore, FreeBeats, TakenCell, Parked};
 
 use crate::beats::held_from;
+use crate::stripes::{load, save};
 use crate::table::{ROWS, word};
 use crate::{SearchGrid, place_of};
 use records::view_cell;
@@ -21,14 +22,17 @@ fn striped(rows: &[u32]) -> [u32; ROWS]
     x
 }
 
-// The free cells at the first n beats of an empty table.
+// The free cells at the first n beats of an empty table: at the first, and from there from beat to beat, which is faster than from the
+// words each time.
 fn fill_free(table: &mut [u32], free: &[u32], n: usize)
     requires { (table.old ≡ replicate 2049 0) × (length free.now ≡ 32) × (1 ≤ n) × (n ≤ 64) }
     ensures { FreeBeats free.now n table.new }
 {
     let words = striped(free);
-    for t in 0..n {
-        bitrows::put_rows(table, t * ROWS, &words, ROWS);
+    bitrows::put_rows(table, 0, &words, ROWS);
+    for t in 1..n {
+        let x = load(table, (t - 1) * ROWS);
+        save(table, t * ROWS, x);
     }
 }
 

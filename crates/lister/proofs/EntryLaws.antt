@@ -15,11 +15,7 @@ use Rattle.laws.proofs.PutLaws.{put_length}
 use Rattle.laws.proofs.VerdictLaws.{then_both, then_passed, demand_holds, demand_passes, gives_passed, gives_refused, when_passed_lem}
 use Rattle.laws.proofs.VerdictLaws.{when_refused}
 use Rattle.floor.specs.declared.Floor.{Floor}
-use Rattle.floor.specs.declared.Checked.{Checked}
-use Rattle.floor.specs.declared.Checked.TheVariants.{Passed}
-use Rattle.floor.specs.Answers.{verdict_of}
-use Rattle.floor.specs.Checks.{check_of, long_enough}
-use Rattle.floor.proofs.AnswersLaws.{passes}
+use Rattle.floor.specs.Checks.{check_of}
 use Rattle.floor.proofs.LimitsLaws.{length_passed}
 use Rattle.floor.proofs.Theorems.{theorems as floor-theorems}
 use Rattle.reference.specs.State.{Machine, State, fresh}
@@ -60,11 +56,10 @@ small_tells f ws report h =
     }
 
 -- The length of a report, as the code asks for it behind a check of the floor that passed.
-pub report_asked : {x : Checked} (y : Checked) (f : Floor) (ws : List ℕ) (most report : ℕ) → verdict_of x ≡ check_of f ws → x ≡ Passed →
-    (1 ≤ f.carriers → f.carriers ≤ 8 → most ≡ ceiling f.carriers) × (most ≤ 512) → verdict_of y ≡ long_enough (2 * most) report →
-    verdict_of y ≡ long_enough (report_size f.carriers) report
+pub report_asked : (f : Floor) (ws : List ℕ) (most : ℕ) → check_of f ws ≡ passed
+    → (1 ≤ f.carriers → f.carriers ≤ 8 → most ≡ ceiling f.carriers) × (most ≤ 512) → 2 * most ≡ report_size f.carriers
 unfolding report_size
-report_asked y f ws most report v e m h = let n = checked_carriers f ws (passes v e) in h ∙ rw (m.0 n.0 n.1)
+report_asked f ws most v m = let n = checked_carriers f ws v in rw (m.0 n.0 n.1)
 
 pub list_tells : (f : Floor) (ws : List ℕ) → list_verdict f ws ≡ passed → (check_of f ws ≡ passed) × (f.carriers ≤ 3)
 unfolding list_verdict

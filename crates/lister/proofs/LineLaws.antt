@@ -1,44 +1,14 @@
--- Lines of runs in a memory: a trail copied number by number, and a run written as its line.
+-- Lines of runs in a memory: a run written as its line.
 use Prim.Native.Nat.{ℕ, suc, ◌+◌, ◌*◌, ◌-◌, ◌/◌, ◌≤◌, ◌<◌}
 use native.Mathlib.Omega.{arith}
 use mathlib.Core.List.{List, [], ◌∷◌, ◌++◌, append_assoc}
 use mathlib.Core.Path.{◌≡◌, refl, sym, ◌∙◌, ap}
-use lib.ListN.{length, get_or, take, set, length-set, length-take}
-use lib.Seq.{take-suc-set, length-take-le, get_or-take}
+use lib.ListN.{length, take, set, length-set, length-take}
+use lib.Seq.{take-suc-set}
 use borrow.Author.Tests.{le-leb, lt-leb, lt-ltb, le-ltb}
 use Rattle.laws.specs.Memory.{put}
-use Rattle.laws.proofs.PutLaws.{put_one, put_next, copy_start, copy_more, copy_keeps, copy_end}
+use Rattle.laws.proofs.PutLaws.{put_one, put_next}
 use Rattle.lister.specs.Lines.{line_written}
-
--- After i of the first k numbers of a trail are copied.
-pub record Copying (lines₀ : List ℕ) (at k : ℕ) (trail lines : List ℕ) (i : ℕ) : Type 0 where
-  pub within : i ≤ k
-  pub long : length trail ≡ 22
-  pub stored : lines ≡ put lines₀ at (take i (take k trail))
-
-module _ (lines₀ : List ℕ) (at k : ℕ) (trail : List ℕ) where
-  pub copying_start : length trail ≡ 22 → Copying lines₀ at k trail lines₀ 0
-  copying_start e = record { within = omega arith; long = e; stored = copy_start lines₀ (take k trail) at }
-
-  module _ (few : k ≤ 22) (enough : at + k ≤ length lines₀) {lines : List ℕ} {i : ℕ} (c : Copying lines₀ at k trail lines i) where
-    size : length (take k trail) ≡ k
-    size = length-take-le k trail (omega (arith, c.long))
-
-    pub copying_keeps : length lines ≡ length lines₀
-    copying_keeps =
-        copy_keeps lines₀ lines (take k trail) at i c.stored (omega (arith, size, c.within)) (omega (arith, size))
-
-    pub copying_more : i < k → Copying lines₀ at k trail (set lines (at + i) (get_or trail i 0)) (i + 1)
-    copying_more l =
-        record {
-          within = omega arith;
-          long = c.long;
-          stored = ap (set lines (at + i)) (sym (get_or-take k trail i 0 l))
-              ∙ copy_more lines₀ lines (take k trail) at i c.stored (omega (arith, size)) (omega (arith, size));
-        }
-
-    pub copying_end : k ≤ i → lines ≡ put lines₀ at (take k trail)
-    copying_end l = copy_end lines₀ lines (take k trail) at i c.stored (omega (arith, size))
 
 -- Two numbers more behind 2 k of them.
 pub two_more : (trail : List ℕ) (k number answer : ℕ) → length trail ≡ 22 → k < 11 →

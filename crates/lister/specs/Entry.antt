@@ -1,17 +1,16 @@
 -- The lister as an entry (document 02, slip 6): its refusals in order, its answer, and the lent report after it.
-use Rattle.std.specs.Prelude.{ℕ, List, leb, ltb, length}
-use Rattle.laws.specs.Verdict.{Verdict, Outcome, value, refusal, ◌then◌, demand, ◌gives◌, when_passed}
+use Rattle.std.specs.Prelude.{ℕ, List, Result, leb, ltb, length}
+use Rattle.laws.specs.Verdict.{Verdict, Outcome, ◌then◌, demand, ◌gives◌, when_passed}
 use Rattle.laws.specs.Memory.{put}
 use Rattle.floor.specs.declared.Floor.{Floor}
+use Rattle.floor.specs.declared.Refusal.{Refusal}
+use Rattle.floor.specs.Answers.{outcome_by}
 use Rattle.floor.specs.Checks.{check_of, long_enough}
 use Rattle.reference.specs.State.{fresh}
 use Rattle.encoding.specs.Calls.{machine_of}
 use Rattle.trial.specs.Report.{report_numbers, report_size}
 use Rattle.listing.specs.Runs.{Run, runs_of, total, run_at, report_from}
 use Rattle.lister.specs.declared.Listed.{Listed}
-use Rattle.lister.specs.declared.Listed.TheVariants.{Run as Found, Refused}
-use Rattle.lister.specs.declared.Counted.{Counted}
-use Rattle.lister.specs.declared.Counted.TheVariants.{Total, Refused as NotCounted}
 use Rattle.lister.specs.Lines.{listed_from}
 
 -- The number of runs of a floor, and its run of a rank.
@@ -35,10 +34,12 @@ pub record Figures : Type 0 where
   pub runs : ℕ
   pub steps : ℕ
 
--- What each case of the code's answer says: the figures, or the refusal.
-unfoldable pub listed_outcome : Listed → Outcome Figures
-listed_outcome (Found total steps) = value (record { runs = total; steps = steps })
-listed_outcome (Refused r) = refusal r.number r.place
+-- What the code's answer says: the figures, or the refusal.
+abbrev pub figures_told : Listed → Figures
+figures_told x = record { runs = x.total; steps = x.steps }
+
+abbrev pub listed_outcome : Result Listed Refusal → Outcome Figures
+listed_outcome x = outcome_by figures_told x
 
 -- What the entry answers.
 unfoldable pub rank_outcome : Floor → List ℕ → (rank report : ℕ) → Outcome Figures
@@ -56,9 +57,8 @@ report_listed f ws rank m = when_passed (rank_verdict f ws rank (length m)) (put
 unfoldable pub list_verdict : Floor → List ℕ → Verdict
 list_verdict f ws = check_of f ws then demand (leb f.carriers 3) 14 0
 
-unfoldable pub counted_outcome : Counted → Outcome ℕ
-counted_outcome (Total n) = value n
-counted_outcome (NotCounted r) = refusal r.number r.place
+abbrev pub counted_outcome : Result ℕ Refusal → Outcome ℕ
+counted_outcome x = outcome_by (λ n. n) x
 
 unfoldable pub list_outcome : Floor → List ℕ → Outcome ℕ
 list_outcome f ws = list_verdict f ws gives total_of f ws

@@ -17,52 +17,37 @@ ghost use Rattle.lister.specs.Lines.{listed_from};
 ghost use Rattle.lister.specs.Entry.{total_of, small_verdict, listed_outcome, rank_outcome, report_listed};
 ghost use Rattle.lister.specs.Entry.{list_verdict, counted_outcome, list_outcome, lines_listed};
 
-use floor::{Checked, Floor, Refusal};
+use floor::{Floor, Reason, Refusal};
 pub use lines::LINE;
+use node::Node;
 
-// The answer of the lister.
+// What is answered with the run of a rank: how many runs there are, and how many steps the run has.
 #[derive(Clone, Copy)]
-pub enum Listed {
-    // How many runs there are, and how many steps the run of the rank has.
-    Run { total: u64, steps: u16 },
-    // Refused.
-    Refused(Refusal),
-}
-
-// The answer of a listing of many runs.
-#[derive(Clone, Copy)]
-pub enum Counted {
-    // How many runs there are.
-    Total(u64),
-    // Refused.
-    Refused(Refusal),
+pub struct Listed {
+    pub total: u64,
+    pub steps: u16,
 }
 
 // 14: more than three carriers.
-fn small(carriers: u16) -> Checked
+#[tactic(auto, unfolding(floor::specs::Answers::verdict_of, laws::specs::Verdict::demand))]
+fn small(carriers: u16) -> Result<(), Refusal>
     ensures { verdict_of result ≡ demand (leb carriers 3) 14 0 }
 {
-    if carriers <= node::CARRIERS as u16 {
-        return Checked::Passed;
+    if carriers > node::CARRIERS as u16 {
+        return Err(Refusal {
+            reason: Reason::TooManyCarriers,
+            place: 0,
+        });
     }
-    Checked::Refused(Refusal {
-        number: 14,
-        place: 0,
-    })
+    Ok(())
 }
 
 // The refusals but 15: the floor's, 9 for the report, 14.
-fn ready(f: Floor, walls: &[u16], report: usize) -> Checked
+fn ready(f: Floor, walls: &[u16], report: usize) -> Result<(), Refusal>
     ensures { verdict_of result ≡ small_verdict f walls.now report }
 {
-    let checked = floor::check(f, walls);
-    let Checked::Passed = checked else {
-        return checked;
-    };
-    let reported = floor::check_length(2 * trial::most_steps(f.carriers as usize), report);
-    let Checked::Passed = reported else {
-        return reported;
-    };
+    floor::check(f, walls)?;
+    floor::check_length(2 * trial::most_steps(f.carriers as usize), report)?;
     small(f.carriers)
 }
 
@@ -74,13 +59,13 @@ fn list(f: Floor, walls: &[u16], first: u64, lines: &mut [u16]) -> u64
         listed_from (machine_of f walls.now) first 0 (runs_of (machine_of f walls.now)) lines.old }
 {
     let n = f.carriers as usize;
-    let root = node::root(n);
+    let root = Node::root(n);
     let free = search::free_rows(f, walls);
     walk::beside(
         f,
         walls,
         free,
-        root,
+        &root,
         trial::most_steps(n),
         0,
         first,
@@ -109,7 +94,7 @@ fn report_line(report: &mut [u16], line: &[u16]) -> u16
 }
 
 // Finds the run of a rank of a small floor, and reports it; 15 where there is none.
-fn find(f: Floor, walls: &[u16], rank: u64, report: &mut [u16]) -> Listed
+fn find(f: Floor, walls: &[u16], rank: u64, report: &mut [u16]) -> Result<Listed, Refusal>
     requires { small_verdict f walls.now (length report.old) ≡ passed }
     ensures answers { listed_outcome result ≡ rank_outcome f walls.now rank (length report.old) }
     ensures reports { report.new ≡ report_listed f walls.now rank report.old }
@@ -117,49 +102,45 @@ fn find(f: Floor, walls: &[u16], rank: u64, report: &mut [u16]) -> Listed
     let mut line = no_line();
     let total = list(f, walls, rank, &mut line);
     if rank >= total {
-        return Listed::Refused(Refusal {
-            number: 15,
+        return Err(Refusal {
+            reason: Reason::NoRank,
             place: 0,
         });
     }
-    Listed::Run {
-        total: total,
+    Ok(Listed {
+        total,
         steps: report_line(report, &line),
-    }
+    })
 }
 
 // The complete run of a rank, counted from 0, and how many there are. The report gets two numbers a step: the step's number, and its
 // answer, 0 kept, 1 sent, 2 delivered.
-pub fn run_of_rank(f: Floor, walls: &[u16], rank: u64, report: &mut [u16]) -> Listed
+pub fn run_of_rank(
+    f: Floor,
+    walls: &[u16],
+    rank: u64,
+    report: &mut [u16],
+) -> Result<Listed, Refusal>
     ensures answers { listed_outcome result ≡ rank_outcome f walls.now rank (length report.old) }
     ensures reports { report.new ≡ report_listed f walls.now rank report.old }
 {
-    let checked = ready(f, walls, report.len());
-    let Checked::Refused(x) = checked else {
-        return find(f, walls, rank, report);
-    };
-    Listed::Refused(x)
+    ready(f, walls, report.len())?;
+    find(f, walls, rank, report)
 }
 
 // The refusals of a listing of many runs: the floor's, 14.
-fn listable(f: Floor, walls: &[u16]) -> Checked
+fn listable(f: Floor, walls: &[u16]) -> Result<(), Refusal>
     ensures { verdict_of result ≡ list_verdict f walls.now }
 {
-    let checked = floor::check(f, walls);
-    let Checked::Passed = checked else {
-        return checked;
-    };
+    floor::check(f, walls)?;
     small(f.carriers)
 }
 
 // How many runs there are, and the runs of the ranks from `first` on, a line each: as many as the lent lines hold, 23 numbers a line.
-pub fn runs_from(f: Floor, walls: &[u16], first: u64, lines: &mut [u16]) -> Counted
+pub fn runs_from(f: Floor, walls: &[u16], first: u64, lines: &mut [u16]) -> Result<u64, Refusal>
     ensures answers { counted_outcome result ≡ list_outcome f walls.now }
     ensures lists { lines.new ≡ lines_listed f walls.now first lines.old }
 {
-    let checked = listable(f, walls);
-    let Checked::Refused(x) = checked else {
-        return Counted::Total(list(f, walls, first, lines));
-    };
-    Counted::Refused(x)
+    listable(f, walls)?;
+    Ok(list(f, walls, first, lines))
 }

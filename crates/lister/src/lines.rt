@@ -10,21 +10,17 @@ use crate::node::{Node, STEPS, TRAIL};
 pub const LINE: usize = TRAIL + 1;
 
 // Writes the first k numbers of a trail from a place on.
-pub fn write_trail(lines: &mut [u16], at: usize, trail: [u16; TRAIL], k: usize)
-    requires { (k ≤ 22) × (at + k ≤ length lines.old) }
-    ensures { lines.new ≡ put lines.old at (take k trail) }
+pub fn write_trail(lines: &mut [u16], at: usize, trail: &[u16], k: usize)
+    requires { (k ≤ length trail.now) × (at + k ≤ length lines.old) }
+    ensures { lines.new ≡ put lines.old at (take k trail.now) }
 {
-    let mut t: usize = 0;
-    while t < k {
-        lines[at + t] = trail[t];
-        t += 1;
-    }
+    lines[at..at + k].copy_from_slice(&trail[..k]);
 }
 
 // Writes the run of a rank as its line, where the lines are those of the ranks from `first` on; a run that has none is not written.
-pub fn write_run(lines: &mut [u16], first: u64, rank: u64, node: Node)
-    requires { node.steps ≤ 11 }
-    ensures { lines.new ≡ line_written first rank node.steps (trail_of node) lines.old }
+pub fn write_run(lines: &mut [u16], first: u64, rank: u64, node: &Node)
+    requires { node.now.steps ≤ 11 }
+    ensures { lines.new ≡ line_written first rank node.now.steps (trail_of node.now) lines.old }
 {
     if rank < first {
         return;
@@ -35,8 +31,6 @@ pub fn write_run(lines: &mut [u16], first: u64, rank: u64, node: Node)
         return;
     }
     let at = LINE * line as usize;
-    let k = node.steps;
-    let trail = node.trail;
-    lines[at] = k as u16;
-    write_trail(lines, at + 1, trail, 2 * k);
+    lines[at] = node.steps as u16;
+    write_trail(lines, at + 1, &node.trail, 2 * node.steps);
 }

@@ -43,39 +43,6 @@ fn no_trail() -> [u16; TRAIL]
     [0; TRAIL]
 }
 
-// The fresh state of n carriers, no step being taken.
-pub fn root(n: usize) -> Node
-    requires { (n ≤ 8) × (state_size n ≤ 1181) }
-    ensures { Rooted n result }
-{
-    let mut memory = no_memory();
-    state::write_fresh(&mut memory, n);
-    Node {
-        memory: memory,
-        trail: no_trail(),
-        steps: 0,
-    }
-}
-
-// Whether the step at a place of the ranking is open.
-pub fn open_at(f: Floor, node: Node, p: usize) -> bool
-    requires p_bound { p < places f.carriers }
-    requires carriers_bound { (f.carriers ≤ 8) × (state_size f.carriers ≤ length node.memory) }
-    ensures { result ≡ open_in (bare f) node.memory (step_at f.carriers p) }
-{
-    let memory = node.memory;
-    steps::is_open(f, &memory, trial::step_at(f.carriers as usize, p))
-}
-
-// Whether no step is open.
-pub fn is_silent(f: Floor, node: Node) -> bool
-    requires { (f.carriers ≤ 8) × (state_size f.carriers ≤ length node.memory) }
-    ensures { result ≡ silent_in (bare f) node.memory }
-{
-    let memory = node.memory;
-    steps::is_silent(f, &memory)
-}
-
 // The numbers of k steps with those of one more.
 fn with_step(trail: [u16; TRAIL], k: usize, number: u16, answer: u16) -> [u16; TRAIL]
     requires { k < 11 }
@@ -87,22 +54,54 @@ fn with_step(trail: [u16; TRAIL], k: usize, number: u16, answer: u16) -> [u16; T
     longer
 }
 
-// The node after the open step at a place.
-pub fn after(f: Floor, walls: &[u16], free: Rows, node: Node, p: usize) -> Node
-    requires p_bound { (p < places f.carriers) × (open_in (bare f) node.memory (step_at f.carriers p) ≡ true) }
-    requires workable { Workable f walls.now free node.memory × (node.steps < 11) }
-    ensures { NodeAfter f walls.now node p result }
-{
-    let x = trial::step_at(f.carriers as usize, p);
-    let number = trial::number_of(f, x);
-    let mut memory = node.memory;
-    let taken = steps::take(f, walls, free, &mut memory, x);
-    let k = node.steps;
-    let trail = node.trail;
-    let longer = with_step(trail, k, number, trial::answer_number(taken));
-    Node {
-        memory: memory,
-        trail: longer,
-        steps: k + 1,
+impl Node {
+    // The fresh state of n carriers, no step being taken.
+    pub fn root(n: usize) -> Self
+        requires { (n ≤ 8) × (state_size n ≤ 1181) }
+        ensures { Rooted n result }
+    {
+        let mut memory = no_memory();
+        state::write_fresh(&mut memory, n);
+        Self {
+            memory,
+            trail: no_trail(),
+            steps: 0,
+        }
+    }
+
+    // Whether the step at a place of the ranking is open.
+    pub fn is_open_at(&self, f: Floor, p: usize) -> bool
+        requires p_bound { p < places f.carriers }
+        requires carriers_bound { (f.carriers ≤ 8) × (state_size f.carriers ≤ length self.now.memory) }
+        ensures { result ≡ open_in (bare f) self.now.memory (step_at f.carriers p) }
+    {
+        steps::is_open(f, &self.memory, trial::step_at(f.carriers as usize, p))
+    }
+
+    // Whether no step is open.
+    pub fn is_silent(&self, f: Floor) -> bool
+        requires { (f.carriers ≤ 8) × (state_size f.carriers ≤ length self.now.memory) }
+        ensures { result ≡ silent_in (bare f) self.now.memory }
+    {
+        steps::is_silent(f, &self.memory)
+    }
+
+    // The node after the open step at a place.
+    pub fn after(&self, f: Floor, walls: &[u16], free: Rows, p: usize) -> Self
+        requires p_bound { (p < places f.carriers) × (open_in (bare f) self.now.memory (step_at f.carriers p) ≡ true) }
+        requires workable { Workable f walls.now free self.now.memory × (self.now.steps < 11) }
+        ensures { NodeAfter f walls.now self.now p result }
+    {
+        let x = trial::step_at(f.carriers as usize, p);
+        let number = trial::number_of(f, x);
+        let mut memory = self.memory;
+        let taken = steps::take(f, walls, free, &mut memory, x);
+        let k = self.steps;
+        let trail = with_step(self.trail, k, number, trial::answer_number(taken));
+        Self {
+            memory,
+            trail,
+            steps: k + 1,
+        }
     }
 }

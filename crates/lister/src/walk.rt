@@ -15,25 +15,25 @@ fn follow(
     f: Floor,
     walls: &[u16],
     free: Rows,
-    node: Node,
+    node: &Node,
     left: usize,
     p: usize,
     first: u64,
     rank: u64,
     lines: &mut [u16],
 ) -> u64
-    requires branch { Branch f walls.now free node left × (1 ≤ left) }
-    requires p_bound { (p < places f.carriers) × (open_in (bare f) node.memory (step_at f.carriers p) ≡ true) }
-    requires p_bound_2 { rank + length (followed_in f walls.now left node.memory p) < 18446744073709551616 }
-    ensures { BranchListed f walls.now node first (followed_in f walls.now left node.memory p) rank
+    requires branch { Branch f walls.now free node.now left × (1 ≤ left) }
+    requires p_bound { (p < places f.carriers) × (open_in (bare f) node.now.memory (step_at f.carriers p) ≡ true) }
+    requires p_bound_2 { rank + length (followed_in f walls.now left node.now.memory p) < 18446744073709551616 }
+    ensures { BranchListed f walls.now node.now first (followed_in f walls.now left node.now.memory p) rank
         lines.old result lines.new }
 {
-    let next = crate::node::after(f, walls, free, node, p);
-    if crate::node::is_silent(f, next) {
-        crate::lines::write_run(lines, first, rank, next);
+    let next = node.after(f, walls, free, p);
+    if next.is_silent(f) {
+        crate::lines::write_run(lines, first, rank, &next);
         return rank + 1;
     }
-    beside(f, walls, free, next, left - 1, 0, first, rank, lines)
+    beside(f, walls, free, &next, left - 1, 0, first, rank, lines)
 }
 
 // Tries the steps from a place of the ranking on, one beside the other: lists the runs that begin with one; the rank behind them.
@@ -42,25 +42,22 @@ pub fn beside(
     f: Floor,
     walls: &[u16],
     free: Rows,
-    node: Node,
+    node: &Node,
     left: usize,
     p: usize,
     first: u64,
     rank: u64,
     lines: &mut [u16],
 ) -> u64
-    requires branch { Branch f walls.now free node left × (p ≤ places f.carriers) }
-    requires p_bound { rank + length (beside_in f walls.now left node.memory p) < 18446744073709551616 }
-    ensures { BranchListed f walls.now node first (beside_in f walls.now left node.memory p) rank
+    requires branch { Branch f walls.now free node.now left × (p ≤ places f.carriers) }
+    requires p_bound { rank + length (beside_in f walls.now left node.now.memory p) < 18446744073709551616 }
+    ensures { BranchListed f walls.now node.now first (beside_in f walls.now left node.now.memory p) rank
         lines.old result lines.new }
 {
-    if left == 0 {
+    if left == 0 || p == trial::count(f.carriers as usize) {
         return rank;
     }
-    if p == trial::count(f.carriers as usize) {
-        return rank;
-    }
-    if crate::node::open_at(f, node, p) {
+    if node.is_open_at(f, p) {
         let behind = follow(f, walls, free, node, left, p, first, rank, lines);
         return beside(f, walls, free, node, left, p + 1, first, behind, lines);
     }

@@ -118,9 +118,9 @@ fn put_walls(f: Floor, walls: &[u16], out: &mut [u8])
 {
     let width = f.width;
     let base = walls_at(f);
-    let k = f.walls as usize;
-    for j in 0..k {
-        put_wall(width, walls[j], out, base + 11 * j);
+    let few = &walls[..f.walls as usize];
+    for (j, wall) in few.iter().enumerate() {
+        put_wall(width, *wall, out, base + 11 * j);
     }
 }
 

@@ -1,6 +1,6 @@
 -- `lister::find` meets its contract: the one line of the window is that of the rank; where there is none, nothing is reported.
 use mathlib.Core.Path.{sym, ◌∙◌}
-use Rattle.lister.specs.Entry.{listed_outcome}
+use Rattle.floor.specs.Answers.{outcome_by}
 use Rattle.lister.proofs.EntryLaws.{small_tells, not_below, is_below, found_line, line_serves, line_report}
 use Rattle.lister.proofs.EntryLaws.{refused_answer, refused_report, found_answer, found_report}
 use Rattle.lister.proofs.find.Goals as goal
@@ -11,7 +11,7 @@ list-total-requires c =
     (small.checked, small.few)
 
 pub returns-then-rank-total : goal.returns-then-rank-total
-unfolding listed_outcome
+unfolding outcome_by
 returns-then-rank-total c =
     let beyond = not_below c.list-total.ensures.counts c.if-rank-total.true in record {
       answers = refused_answer _ _ _ c.args.report.now c.requires beyond;
@@ -27,7 +27,7 @@ report_line-requires c =
     (serves.0, (c.list-total.auto.lines ∙ sym c.no_line-line.ensures, serves.1))
 
 pub returns : goal.returns
-unfolding listed_outcome
+unfolding outcome_by
 returns c =
     let small = small_tells _ _ _ c.requires in
     let below = is_below c.list-total.ensures.counts c.if-rank-total.false in

@@ -1,17 +1,21 @@
--- `lister::ready` meets its contract: behind each passed check the next one decides.
-use Rattle.floor.proofs.AnswersLaws.{chain}
+-- `lister::ready` meets its contract: a chain of three checks.
+use Rattle.floor.proofs.AnswersLaws.{chain, met_passed}
 use Rattle.lister.specs.Entry.{small_verdict}
 use Rattle.lister.proofs.EntryLaws.{report_asked}
 use Rattle.lister.proofs.ready.Goals as goal
 
-pub returns-in_default : goal.returns-in_default
+pub returns-in_err-check : goal.returns-in_err-check
 unfolding small_verdict
-returns-in_default c = search chain
+returns-in_err-check c = search (chain, c.in_err-check.ensures) depth 7
 
-pub returns-in_default-reported : goal.returns-in_default-reported
+pub returns-in_err-check_length : goal.returns-in_err-check_length
 unfolding small_verdict
-returns-in_default-reported c = search (chain, report_asked) depth 7
+returns-in_err-check_length c =
+    rw (← report_asked _ _ _ (met_passed c.in_ok-check.ensures) c.most_steps.ensures)
+    (search (chain, c.in_ok-check.ensures, c.in_err-check_length.ensures) depth 7)
 
 pub returns : goal.returns
 unfolding small_verdict
-returns c = search (chain, report_asked) depth 7
+returns c =
+    rw (← report_asked _ _ _ (met_passed c.in_ok-check.ensures) c.most_steps.ensures)
+    (search (chain, c.in_ok-check.ensures, c.in_ok-check_length.ensures) depth 7)

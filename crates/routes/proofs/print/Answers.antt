@@ -1,13 +1,9 @@
 -- `routes::print` meets its contract: its array is never too short.
-use Rattle.routes.proofs.PrintedLaws.{never_refused, counted}
+use Rattle.routes.proofs.PrintedLaws.{counted}
 use native.Mathlib.Omega.{arith}
 use Rattle.routes.proofs.print.Goals as goal
 
-pub returns-in_default : goal.returns-in_default
-returns-in_default c =
-    absurd (never_refused _ _ _ _ (omega arith) c.routes-printed.ensures.says c.routes-printed.ensures.stores _ c.in_default.is)
-
 pub returns : goal.returns
 returns c =
-    let both = counted _ _ _ _ (omega arith) c.routes-printed.ensures.says c.routes-printed.ensures.stores _ c.in-Written.is in
+    let both = counted _ _ _ _ (omega arith) c.routes.ensures.says c.routes.ensures.stores _ c.unwrap_or.ensures in
     record { counts = both.0; prints = both.1 }

@@ -18,6 +18,3 @@ lines-requires c = record {
       counted_near _ _ _ e;
   free = λ b l. let low : b ≤ 64000 = omega (arith, l, c.requires) in search rules;
 }
-
-pub returns : goal.returns
-returns c = c.lines.ensures (counted_form c.args.text.now) (past_counted c.args.text.now) (λ b r p. search rules)

@@ -1,5 +1,5 @@
 -- `fields::reader::pair_lines` meets its contract: a line of two fields is 11 bytes long.
-use Prim.Native.Nat.{ℕ, ◌≤◌}
+use Prim.Native.Nat.{◌≤◌}
 use native.Mathlib.Omega.{arith}
 use mathlib.Core.Path.{◌≡◌}
 use borrow.Author.Rules.{rules}
@@ -18,6 +18,3 @@ lines-requires c = record {
       pair_near _ _ _ e;
   free = λ b l. let low : b ≤ 65000 = omega (arith, l, c.requires) in search rules;
 }
-
-pub returns : goal.returns
-returns c = c.lines.ensures (λ (b : ℕ). line_form c.args.text.now b 2) past_pair (λ b r p. search rules)

@@ -8,23 +8,25 @@ use Rattle.lister.proofs.WalkLaws.{places_six, beside_spent, beside_end, beside_
 use Rattle.lister.proofs.WalkLaws.{tallied_join, tallied_below, tallied_end, followed_end, followed_onward, branch_below, fits_one}
 use Rattle.lister.proofs.WalkLaws.{fits_below, fits_same, fits_part, fits_rest, falls_along, falls_to, falls_below, place_listed}
 use Rattle.lister.proofs.walk.+beside_follow.Goals as goal
+use Rattle.lister.proofs.walk.+beside_follow.Goals.{beside-then-left-eq0-via-then-left-eq0, beside-then-left-eq0-via-else-left-eq0+then-p-count}
 
 next_place : {p places : ℕ} → p < places → p + 1 ≤ places
 next_place l = omega arith
 
 pub beside-returns-then-left-eq0 : goal.beside-returns-then-left-eq0
-beside-returns-then-left-eq0 t c = tallied_none _ _ _ _ (beside_spent _ _ _ _ _ c.if-left-eq0.true)
-
-pub beside-returns-then-p-count : goal.beside-returns-then-p-count
-beside-returns-then-p-count t c =
-    tallied_none _ _ _ _ (beside_end _ _ _ _ _ (omega (arith, c.if-p-count.true, c.count.ensures.0)))
+beside-returns-then-left-eq0 t c =
+    elim c.then-left-eq0.branch [
+      | beside-then-left-eq0-via-then-left-eq0 w ↦ tallied_none _ _ _ _ (beside_spent _ _ _ _ _ w.if-left-eq0.true)
+      | beside-then-left-eq0-via-else-left-eq0+then-p-count w ↦ tallied_none _ _ _ _
+          (beside_end _ _ _ _ _ (omega (arith, w.if-p-count.true, w.count.ensures.0)))
+    ]
 
 pub beside-follow-behind-requires : goal.beside-follow-behind-requires
 beside-follow-behind-requires t c =
     let b = c.requires.branch in
     let some : 1 ≤ c.args.left = omega (arith, c.if-left-eq0.false) in
     let listed = place_listed _ _ _ b.1 c.count.ensures.0 c.if-p-count.false in
-    let told = sym c.open_at.ensures ∙ c.if-open_at.true in (
+    let told = sym c.is_open_at.ensures ∙ c.if-is_open_at.true in (
       falls_to _ _ _ _ c.decreases listed (places_six _ b.0.few),
       ((b.0, some), ((listed, told), fits_part _ _ _ _ _ _ _ some listed told c.requires.p_bound)),
     )
@@ -34,23 +36,23 @@ beside-beside-requires t c =
     let b = c.requires.branch in
     let some : 1 ≤ c.args.left = omega (arith, c.if-left-eq0.false) in
     let listed = place_listed _ _ _ b.1 c.count.ensures.0 c.if-p-count.false in
-    let told = sym c.open_at.ensures ∙ c.if-open_at.true in (
+    let told = sym c.is_open_at.ensures ∙ c.if-is_open_at.true in (
       falls_along _ _ _ _ c.decreases listed (places_six _ b.0.few),
       ((b.0, next_place listed), fits_rest _ _ _ _ _ _ _ some listed told c.requires.p_bound _ c.follow-behind.ensures.counts),
     )
 
-pub beside-returns-then-open_at : goal.beside-returns-then-open_at
-beside-returns-then-open_at t c =
+pub beside-returns-then-is_open_at : goal.beside-returns-then-is_open_at
+beside-returns-then-is_open_at t c =
     let some : 1 ≤ c.args.left = omega (arith, c.if-left-eq0.false) in
     let listed = place_listed _ _ _ c.requires.branch.1 c.count.ensures.0 c.if-p-count.false in
-    let told = sym c.open_at.ensures ∙ c.if-open_at.true in
+    let told = sym c.is_open_at.ensures ∙ c.if-is_open_at.true in
     tallied_join _ _ _ _ (beside_open _ _ _ _ _ some listed told) c.follow-behind.ensures c.beside.ensures
 
 pub beside-beside-requires-2 : goal.beside-beside-requires-2
 beside-beside-requires-2 t c =
     let b = c.requires.branch in
     let listed = place_listed _ _ _ b.1 c.count.ensures.0 c.if-p-count.false in
-    let told = sym c.open_at.ensures ∙ c.if-open_at.false in (
+    let told = sym c.is_open_at.ensures ∙ c.if-is_open_at.false in (
       falls_along _ _ _ _ c.decreases listed (places_six _ b.0.few),
       ((b.0, next_place listed), fits_same _ _ _ _ (beside_shut _ _ _ _ _ listed told) c.requires.p_bound),
     )
@@ -58,7 +60,7 @@ beside-beside-requires-2 t c =
 pub beside-returns : goal.beside-returns
 beside-returns t c =
     let listed = place_listed _ _ _ c.requires.branch.1 c.count.ensures.0 c.if-p-count.false in
-    let told = sym c.open_at.ensures ∙ c.if-open_at.false in
+    let told = sym c.is_open_at.ensures ∙ c.if-is_open_at.false in
     tallied_same _ _ _ _ (beside_shut _ _ _ _ _ listed told) c.beside-2.ensures
 
 pub follow-overflow_add-result : goal.follow-overflow_add-result

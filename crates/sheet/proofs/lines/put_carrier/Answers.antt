@@ -2,8 +2,6 @@
 use Rattle.floor.specs.Checks.{start_of, count_of}
 use Rattle.fields.specs.Form.{counted_length}
 use Rattle.sheet.proofs.DockLaws.{carrier_puts}
-use lib.ListN.{length-set}
-use native.Mathlib.Omega.{arith}
 use borrow.Author.Rules.{rules}
 use Rattle.sheet.proofs.lines.put_carrier.Goals as goal
 
@@ -22,10 +20,6 @@ put_docks-requires-clause-count_bound c = search rules
 pub bounds-out-at : goal.bounds-out-at
 unfolding counted_length count_of
 bounds-out-at c = search rules
-
-pub shape_of-out : goal.shape_of-out
-unfolding counted_length count_of
-shape_of-out c = simp length-set (omega arith)
 
 pub returns : goal.returns
 unfolding start_of count_of

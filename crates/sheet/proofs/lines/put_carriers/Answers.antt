@@ -2,7 +2,6 @@
 use Rattle.sheet.specs.Text.{carrier_at}
 use Rattle.sheet.proofs.LineLaws.{lines, lines_next, lines_keep, lines_end}
 use Rattle.sheet.proofs.DockLaws.{carrier_first, carrier_next, carrier_end, carriers_behind, carrier_step, carriers_high}
-use Rattle.sheet.proofs.DockLaws.{whole_lines}
 use native.Mathlib.Omega.{arith}
 use Rattle.sheet.proofs.lines.put_carriers.Goals as goal
 
@@ -38,12 +37,6 @@ loop-i-preserved c =
       lines_next _ (carrier_at c.args.f) (carriers_behind _) _ _ _ _ _ c.loop-i.invariant.1
           c.put_carrier.ensures here (omega (arith, step, c.requires.carriers_in_bounds)),
     )
-
-pub shape_of-out : goal.shape_of-out
-shape_of-out c =
-    let end = whole_lines c.args.f c.loop-i.i _ c.loop-i.auto.i-end in
-    lines_keep _ (carrier_at c.args.f) (carriers_behind _) _ _ c.loop-i.i (omega (arith, end, c.requires.carriers_in_bounds))
-    c.loop-i.invariant.1
 
 pub returns : goal.returns
 returns c =

@@ -2,13 +2,9 @@
 use Rattle.sheet.specs.Text.{line_of, head_line}
 use Rattle.sheet.proofs.LineLaws.{field_next, newline_next}
 use Rattle.fields.specs.Field.{field_of}
-use lib.ListN.{length-set}
 use mathlib.Core.Path.{refl}
 use native.Mathlib.Omega.{arith}
 use Rattle.sheet.proofs.lines.put_head.Goals as goal
-
-pub shape_of-out : goal.shape_of-out
-shape_of-out c = simp length-set (omega arith)
 
 pub returns : goal.returns
 unfolding head_line line_of field_of

@@ -1,6 +1,7 @@
 -- `sheet::lines::put_walls` meets its contract: invariant: the lines passed stand one behind the other.
 use Rattle.sheet.specs.Text.{sheet_length, wall_at}
 use Rattle.sheet.proofs.LineLaws.{lines, even_next, even_keep, wall_length}
+use lib.Seq.{length-take-le, get_or-take}
 use mathlib.Core.Path.{refl}
 use Prim.Native.Nat.{ℕ}
 use native.Mathlib.Omega.{arith}
@@ -13,27 +14,20 @@ pub put_wall-requires : goal.put_wall-requires
 unfolding sheet_length wall_at
 put_wall-requires c =
     let base = c.walls_at-base.ensures.0 in
+    let few = length-take-le c.args.f.walls c.args.walls.now c.requires.walls_in_bounds.0 in
     let l = c.loop-j-test.true in
-    let size = even_keep _ 11 _ (λ (p : ℕ). wall_length _ _) _ _ c.loop-j.j (omega (arith, c.requires, base, l))
+    let size = even_keep _ 11 _ (λ (p : ℕ). wall_length _ _) _ _ c.loop-j.j (omega (arith, c.requires, base, l, few))
     c.loop-j.invariant in record {
       width_nonzero = c.requires.walls_in_bounds.1;
-      at_in_bounds = omega (arith, c.requires, base, l, size);
+      at_in_bounds = omega (arith, c.requires, base, l, size, few);
     }
 
 pub loop-j-preserved : goal.loop-j-preserved
 unfolding sheet_length wall_at
 loop-j-preserved c =
     let base = c.walls_at-base.ensures.0 in
+    let few = length-take-le c.args.f.walls c.args.walls.now c.requires.walls_in_bounds.0 in
     let l = c.loop-j-test.true in
-    even_next _ 11 _ (λ (p : ℕ). wall_length _ _) _ _ _ _ _ c.loop-j.invariant
-    c.put_wall.ensures refl (omega (arith, c.requires, base, l))
-
-pub shape_of-out : goal.shape_of-out
-unfolding sheet_length wall_at
-shape_of-out c =
-    even_keep _ 11 _ (λ (p : ℕ). wall_length _ _) _ _ c.loop-j.j
-    (omega (arith, c.requires, c.walls_at-base.ensures.0, c.loop-j.auto.j-end)) c.loop-j.invariant
-
-pub returns : goal.returns
-returns c =
-    rw (← c.walls_at-base.ensures.0) (search lines)
+    let wall = get_or-take c.args.f.walls c.args.walls.now c.loop-j.j 0 (omega (arith, l, few)) in
+    even_next _ 11 _ (λ (p : ℕ). wall_length _ _) _ _ _ _ _ c.loop-j.invariant (rw wall at c.put_wall.ensures) refl
+    (omega (arith, c.requires, base, l, few))

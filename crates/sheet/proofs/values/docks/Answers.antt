@@ -8,6 +8,3 @@ loop-k-init c = search lists
 
 pub loop-k-preserved : goal.loop-k-preserved
 loop-k-preserved c = up_to_step _ _ _ 4 _ (omega (arith, c.loop-k-test.true, c.requires.count_bound.0)) c.loop-k.invariant c.cell.ensures
-
-pub returns : goal.returns
-returns c = search lists

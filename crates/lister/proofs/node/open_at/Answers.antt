@@ -1,7 +1,0 @@
--- `lister::node::open_at` meets its contract: the step at the place, tested.
-use mathlib.Core.Path.{refl, ◌∙◌}
-use Rattle.lister.proofs.node.open_at.Goals as goal
-
-pub returns : goal.returns
-returns c =
-    c.is_open.ensures ∙ rw c.step_at.ensures refl
