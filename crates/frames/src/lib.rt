@@ -16,7 +16,7 @@ ghost use Rattle.reporting.specs.Put.{PutAt};
 ghost use Rattle.frames.specs.Text.{frame_of, draw_head, floor_text, floor_beat, draw_text, beat_text};
 ghost use Rattle.frames.specs.Inner.{Drawable};
 
-use floor::{Checked, Floor};
+use floor::Floor;
 use reporting::put_bytes;
 
 // Room for every text: a map, an empty line, eight lines of 46 bytes, and for 64 beats an empty line, a line of 8 bytes and 32 rows of 33.
@@ -90,26 +90,6 @@ fn put_beat(f: Floor, walls: &[u16], t: u16, out: &mut [u8]) -> usize
     lines::put_frame(f, walls, &own, t as usize, out, 0)
 }
 
-// Puts the whole text for a floor that was read, with its walls in front of `walls`; its length is returned.
-fn put_read(f: Floor, walls: &[u16], out: &mut [u8]) -> usize
-    requires walls_value { check_of f (take f.walls walls.now) ≡ passed }
-    requires walls_in_bounds { (f.walls ≤ length walls.now) × (89061 ≤ length out.old) }
-    ensures { TextPut (floor_text f (take f.walls walls.now)) out.old out.new result }
-{
-    let k = f.walls as usize;
-    put_whole(f, &walls[..k], out)
-}
-
-// Puts the text of one beat for a floor that was read; its length is returned.
-fn put_read_beat(f: Floor, walls: &[u16], t: u16, out: &mut [u8]) -> usize
-    requires walls_value { check_of f (take f.walls walls.now) ≡ passed }
-    requires walls_in_bounds { (f.walls ≤ length walls.now) × (1064 ≤ length out.old) }
-    ensures { TextPut (floor_beat t f (take f.walls walls.now)) out.old out.new result }
-{
-    let k = f.walls as usize;
-    put_beat(f, &walls[..k], t, out)
-}
-
 // Prints the map, the arrivals and all beats of any text that is a sheet, and of any other text the line of its refusal; the number of
 // printed bytes is returned.
 pub fn print(text: &[u8], out: &mut [u8; TEXT_LENGTH]) -> usize
@@ -117,13 +97,13 @@ pub fn print(text: &[u8], out: &mut [u8; TEXT_LENGTH]) -> usize
     ensures prints { take result out.new ≡ draw_text text.now }
 {
     let mut walls = sheet::no_walls();
-    let reading = sheet::read(text, &mut walls);
-    let checked = reading.answer;
-    let f = reading.floor;
-    let Checked::Refused(x) = checked else {
-        return put_read(f, &walls, out);
-    };
-    printing::put_refusal(x, out)
+    match sheet::read(text, &mut walls) {
+        Ok(f) => {
+            let k = f.walls as usize;
+            put_whole(f, &walls[..k], out)
+        }
+        Err(x) => printing::put_refusal(x, out),
+    }
 }
 
 // Prints beat t of any text that is a sheet, nothing if it is above the horizon, and of any other text the line of its refusal; the number
@@ -133,11 +113,11 @@ pub fn print_beat(text: &[u8], t: u16, out: &mut [u8; BEAT_LENGTH]) -> usize
     ensures prints { take result out.new ≡ beat_text text.now t }
 {
     let mut walls = sheet::no_walls();
-    let reading = sheet::read(text, &mut walls);
-    let checked = reading.answer;
-    let f = reading.floor;
-    let Checked::Refused(x) = checked else {
-        return put_read_beat(f, &walls, t, out);
-    };
-    printing::put_refusal(x, out)
+    match sheet::read(text, &mut walls) {
+        Ok(f) => {
+            let k = f.walls as usize;
+            put_beat(f, &walls[..k], t, out)
+        }
+        Err(x) => printing::put_refusal(x, out),
+    }
 }

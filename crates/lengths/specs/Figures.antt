@@ -1,20 +1,19 @@
 -- The needed length of each lent buffer of a floor.
-use Rattle.std.specs.Prelude.{◌*◌}
+use Rattle.std.specs.Prelude.{◌*◌, Result}
 use Rattle.floor.specs.declared.Floor.{Floor}
-use Rattle.laws.specs.Verdict.{Outcome, value, refusal, ◌gives◌}
+use Rattle.floor.specs.declared.Refusal.{Refusal}
+use Rattle.floor.specs.Answers.{outcome_by}
+use Rattle.laws.specs.Verdict.{Outcome, ◌gives◌}
 use Rattle.floor.specs.Checks.{limits_of}
 use Rattle.sheet.specs.Text.{sheet_length}
 use Rattle.printing.specs.Print.{text_length}
 use Rattle.encoding.specs.Places.{state_size}
 use Rattle.trial.specs.Report.{report_size}
 use Rattle.lengths.specs.declared.Lengths.{Lengths}
-use Rattle.lengths.specs.declared.Needed.{Needed}
-use Rattle.lengths.specs.declared.Needed.TheVariants.{Known, Refused}
 
--- What each case of the code's answer says: the lengths, or the refusal.
-unfoldable pub figures_of : Needed → Outcome Lengths
-figures_of (Known l) = value l
-figures_of (Refused r) = refusal r.number r.place
+-- What the code's answer says: the lengths, or the refusal.
+abbrev pub figures_of : Result Lengths Refusal → Outcome Lengths
+figures_of x = outcome_by (λ l. l) x
 
 -- As many cell numbers as the floor has walls, the sheet's length in bytes, 65 numbers a carrier for answers or views, 11 bytes and
 -- 331 a carrier for printed routes, the numbers of the machine's state, 64 cells of a route, 54 numbers of a floor record, as many

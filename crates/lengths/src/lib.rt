@@ -6,8 +6,7 @@ ghost use Rattle.std.specs.Prelude.{◌≡◌, ◌≤◌};
 ghost use Rattle.trial.specs.Report.{report_size};
 ghost use Rattle.lengths.specs.Figures.{figures_of, figures_for};
 
-use floor::{Checked, Floor, Refusal};
-use machine::Most;
+use floor::{Floor, Refusal};
 
 // The needed lengths: `walls` in cell numbers of two bytes, `sheet` in bytes, `answers` in numbers of two bytes (the
 // answers of a planner, and the views lent to a search), `text` in bytes (the printed routes), `state` in numbers of two
@@ -27,44 +26,28 @@ pub struct Lengths {
     pub report: usize,
 }
 
-// What the entry answers.
-#[derive(Clone, Copy)]
-pub enum Needed {
-    // The lengths.
-    Known(Lengths),
-    // Refusal 2: a value that a length depends on is outside its limits.
-    Refused(Refusal),
-}
-
 // The needed length of a trial's report for n carriers: two numbers for each step of the ceiling.
 fn report_length(n: usize) -> usize
     requires { (1 ≤ n) × (n ≤ 8) }
     ensures { result ≡ report_size n }
 {
-    let most = machine::ceiling(n);
-    let Most::Steps(t) = most else {
-        return 0;
-    };
-    2 * t
+    2 * machine::ceiling(n).unwrap_or(0)
 }
 
 // The needed lengths of a floor. They depend on line 1's values alone, so its limits are all that is checked.
-pub fn needed_lengths(f: Floor) -> Needed
+pub fn needed_lengths(f: Floor) -> Result<Lengths, Refusal>
     ensures { figures_of result ≡ figures_for f }
 {
-    let limited = floor::limits(f);
-    let Checked::Refused(refusal) = limited else {
-        return Needed::Known(Lengths {
-            walls: f.walls as usize,
-            sheet: sheet::sheet_length(f),
-            answers: 65 * f.carriers as usize,
-            text: printing::text_length(f),
-            state: state::state_size(f.carriers as usize),
-            route: 64,
-            floor: 54,
-            figures: 9,
-            report: report_length(f.carriers as usize),
-        });
-    };
-    Needed::Refused(refusal)
+    floor::limits(f)?;
+    Ok(Lengths {
+        walls: f.walls as usize,
+        sheet: sheet::sheet_length(f),
+        answers: 65 * f.carriers as usize,
+        text: printing::text_length(f),
+        state: state::state_size(f.carriers as usize),
+        route: 64,
+        floor: 54,
+        figures: 9,
+        report: report_length(f.carriers as usize),
+    })
 }

@@ -1,7 +1,6 @@
 -- The text of a meeting in a memory of 1,087 bytes, which holds every such text.
 use Prim.Native.Nat.{ℕ, zero, suc, ◌+◌, ◌*◌, ◌≤◌, ◌<◌, min}
 use native.Mathlib.Omega.{arith}
-use mathlib.Core.Bool.{Bool, true, false}
 use mathlib.Core.Path.{◌≡◌, refl, sym, ap, ◌∙◌}
 use mathlib.Core.List.{List, [], ◌∷◌, ◌++◌, append-nil}
 use borrow.Author.Tests.{le-leb, leb-true}
@@ -21,17 +20,17 @@ use Rattle.floor.proofs.LimitsLaws.{check_tells}
 use Rattle.route.specs.Route.{Answer, none, route, View, unheard}
 use Rattle.route.specs.FirstConflict.{ConflictKind, same_cell, change_of_places, following, ConflictAt, ConflictAnswer, free, dated}
 use Rattle.route.specs.ConflictTest.{first_conflict, conflict_told}
-use Rattle.route.specs.declared.FirstConflict.{FirstConflict}
-use Rattle.route.specs.declared.FirstConflict.TheVariants.{SameCell, ChangeOfPlaces, Following}
+use Rattle.route.specs.declared.Conflict.{Conflict}
+use Rattle.route.specs.declared.Conflict.TheVariants.{SameCell, ChangeOfPlaces, Following}
 use Rattle.route.specs.Search.{best}
 use Rattle.route.proofs.Theorems.{theorems as route-theorems}
 use Rattle.records.specs.Records.{view_of, record_at, view_at, records, views_of}
 use Rattle.records.specs.Seen.{seen_from, seen}
 use Rattle.search.specs.Task.{task_of}
 use Rattle.search.specs.Search.{request_of, search_of}
-use Rattle.search.specs.Answers.{outcome_of, result_of, Answers}
-use Rattle.search.specs.declared.Outcome.TheVariants.{Route, None, Refused}
-use Rattle.search.specs.declared.Found.{Found}
+use Rattle.search.specs.Answers.{answer_of, result_of}
+use Rattle.floor.specs.Answers.{outcome_by}
+use Rattle.std.specs.Prelude.{Option, Some, None, Result, Ok, Err, IsOk}
 use Rattle.search.proofs.Theorems.{theorems as search-theorems}
 use Rattle.printing.specs.Print.{or_refusal}
 use Rattle.printing.specs.Text.{refusal_line}
@@ -44,7 +43,7 @@ use Rattle.drawing.specs.Drawing.{drawn_floor}
 use Rattle.drawing.proofs.DrawnLaws.{drawn_length, drawn_short}
 use Rattle.meeting.specs.Text.{alone_of, pair_verdict, number_line, free_line}
 use Rattle.meeting.specs.Text.{same_cell_words, change_words, following_words}
-use Rattle.meeting.specs.Text.{no_route_words, conflict_line, no_route_line, Early, conflict_drawing, answer_if, met_text, pair_text}
+use Rattle.meeting.specs.Text.{no_route_words, conflict_line, no_route_line, Early, conflict_drawing, met_text, pair_text}
 
 -- Zeros show no view.
 zeros_unheard : (n j : ℕ) → view_at (replicate n 0) j ≡ unheard
@@ -122,16 +121,16 @@ found_early H r q (dated t kind) e =
     conflict_low H r q t kind (((route-theorems.conflict_test (min H 63) r q).first_exactly t kind).0 (sym e)).there
 
 -- A conflict that is told is early: by its kind, and so in two digits.
-module _ {x : FirstConflict} {t : ℕ} (e : Early (conflict_told x)) where
-  pub same_early : x ≡ SameCell t → t ≤ 63
+module _ {x : Option Conflict} {t : ℕ} (e : Early (conflict_told x)) where
+  pub same_early : x ≡ Some (SameCell t) → t ≤ 63
   unfolding Early conflict_told
   same_early h = rw h at e
 
-  pub change_early : x ≡ ChangeOfPlaces t → t ≤ 63
+  pub change_early : x ≡ Some (ChangeOfPlaces t) → t ≤ 63
   unfolding Early conflict_told
   change_early h = rw h at e
 
-  pub following_early : x ≡ Following t → t ≤ 63
+  pub following_early : x ≡ Some (Following t) → t ≤ 63
   unfolding Early conflict_told
   following_early h = rw h at e
 
@@ -140,12 +139,16 @@ early_digits l = omega arith
 
 pub ruleset early = (same_early, change_early, following_early, early_digits)
 
+-- A conflict that was found, by its kind.
+pub found_is : {x : Option Conflict} {k y : Conflict} → x ≡ Some k → k ≡ y → x ≡ Some y
+found_is e h = rw (e, h) refl
+
 -- What is put for one case of what was found.
-pub line_case : (x y : FirstConflict) (old new : List ℕ) (n : ℕ) → x ≡ y → PutAt (conflict_line (conflict_told y)) old 0 new n
+pub line_case : (x y : Option Conflict) (old new : List ℕ) (n : ℕ) → x ≡ y → PutAt (conflict_line (conflict_told y)) old 0 new n
     → PutAt (conflict_line (conflict_told x)) old 0 new n
 line_case x y old new n e p = rw e p
 
-pub drawing_case : (f : Floor) (ws : List ℕ) (i j : ℕ) (r q : List ℕ) (x y : FirstConflict) (old new : List ℕ) (n : ℕ) → x ≡ y
+pub drawing_case : (f : Floor) (ws : List ℕ) (i j : ℕ) (r q : List ℕ) (x y : Option Conflict) (old new : List ℕ) (n : ℕ) → x ≡ y
     → TextPut (conflict_drawing f ws i j r q (conflict_told y)) old new n → TextPut (conflict_drawing f ws i j r q (conflict_told x)) old new n
 drawing_case f ws i j r q x y old new n e p = rw e p
 
@@ -180,40 +183,33 @@ front_put p = record { bytes = p.bytes; size = omega (arith, p.behind) }
 pub nothing_put : (old : List ℕ) → TextPut [] old old 0
 nothing_put old = record { bytes = put_none old 0; size = refl }
 
--- What the outcome of a search that answers says of its answer.
-pub route_told : (cells : List ℕ) (y : Answer) → outcome_of Route cells ≡ value y → y ≡ answer_if true cells
-unfolding outcome_of answer_if
-route_told cells y e = cc
+-- A search that answers is not refused, and what it found is its answer.
+pub answers : (x : Result (Option (List ℕ)) Refusal) {y : Answer} → result_of x ≡ value y → IsOk x
+unfolding outcome_by
+answers (Ok o) e = refl
+answers (Err r) e = let z : ◌≡◌ {A = ℕ} 0 1 = cc in absurd (omega arith)
 
-pub none_told : (cells : List ℕ) (y : Answer) → outcome_of None cells ≡ value y → y ≡ answer_if false cells
-unfolding outcome_of answer_if
-none_told cells y e = cc
-
-pub refusal_told : (x : Refusal) (cells : List ℕ) (y : Answer) → outcome_of (Refused x) cells ≡ value y → y ≡ answer_if false cells
-unfolding outcome_of
-refusal_told x cells y e = let z : ◌≡◌ {A = ℕ} 0 1 = cc in absurd (omega arith)
-
--- The answer of a search whose outcome is told by whether it has a route.
-pub answer_told : (x : Found) (y : Answer) {one other : Bool} → one ≡ other → Answers x (value y) →
-    ((cells : List ℕ) (z : Answer) → outcome_of x.outcome cells ≡ value z → z ≡ answer_if one cells) → y ≡ answer_if other x.route
-unfolding result_of
-answer_told x y e says h = rw (← e) (h x.route y says.answers)
+pub answer_found : (x : Result (Option (List ℕ)) Refusal) (o : Option (List ℕ)) (y : Answer) → x ≡ Ok o → result_of x ≡ value y
+    → answer_of o ≡ y
+unfolding outcome_by
+answer_found x o y e h = let k : value (answer_of o) ≡ value y = rw e at h in cc
 
 -- The text for two answers, by its cases.
-module _ (f : Floor) (ws : List ℕ) (i j : ℕ) (x y : Answer) (r q : List ℕ) {old new : List ℕ} {n : ℕ} where
-  pub first_none : x ≡ answer_if false r → TextPut (no_route_line i) old new n → TextPut (met_text f ws i j x y) old new n
-  unfolding met_text answer_if
-  first_none e t = rw e t
+module _ (f : Floor) (ws : List ℕ) (i j : ℕ) (x y : Answer) {old new : List ℕ} {n : ℕ} where
+  pub first_none : (o : Option (List ℕ)) → answer_of o ≡ x → o ≡ None → TextPut (no_route_line i) old new n
+      → TextPut (met_text f ws i j x y) old new n
+  unfolding met_text
+  first_none o e h t = rw (← e, h) t
 
-  pub second_none : x ≡ answer_if true r → y ≡ answer_if false q → TextPut (no_route_line j) old new n →
-      TextPut (met_text f ws i j x y) old new n
-  unfolding met_text answer_if
-  second_none e h t = rw (e, h) t
+  module _ (o : Option (List ℕ)) (r : List ℕ) (e : answer_of o ≡ x) (h : o ≡ Some r) where
+    pub second_none : (o' : Option (List ℕ)) → answer_of o' ≡ y → o' ≡ None → TextPut (no_route_line j) old new n
+        → TextPut (met_text f ws i j x y) old new n
+    unfolding met_text
+    second_none o' e' h' t = rw (← e, h, ← e', h') t
 
-  pub both_routes : x ≡ answer_if true r → y ≡ answer_if true q → TextPut (met_text f ws i j (route r) (route q)) old new n →
-      TextPut (met_text f ws i j x y) old new n
-  unfolding answer_if
-  both_routes e h t = rw (e, h) t
+    pub both_routes : (o' : Option (List ℕ)) (q : List ℕ) → answer_of o' ≡ y → o' ≡ Some q
+        → TextPut (met_text f ws i j (route r) (route q)) old new n → TextPut (met_text f ws i j x y) old new n
+    both_routes o' q e' h' t = rw (← e, h, ← e', h') t
 
 pub met_put : (f : Floor) (ws : List ℕ) (i j : ℕ) (r q : List ℕ) (x : ConflictAnswer) (old new : List ℕ) (n : ℕ) → f.horizon ≤ 63
     → x ≡ first_conflict (min f.horizon 63) r q → TextPut (conflict_line x ++ conflict_drawing f ws i j r q x) old new n

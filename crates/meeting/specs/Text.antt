@@ -1,6 +1,6 @@
 -- The printed text of `desk meeting I J` (document 02, slips 7 and 9), from a sheet's bytes and two carriers, counted from 1: where the
 -- best routes of the two, each against nobody, meet, and the floor at that beat.
-use Rattle.std.specs.Prelude.{ℕ, ◌-◌, ◌≤◌, Bool, true, false, List, [], ◌∷◌, ◌++◌, replicate, set}
+use Rattle.std.specs.Prelude.{ℕ, ◌-◌, ◌≤◌, List, [], ◌∷◌, ◌++◌, replicate, set}
 use Rattle.laws.specs.Verdict.{Verdict, ◌then◌, demand}
 use Rattle.reporting.specs.Words.{carrier_words, short_decimal}
 use Rattle.floor.specs.declared.Floor.{Floor}
@@ -56,11 +56,6 @@ conflict_line (dated t following) = number_line following_words t (10 ∷ [])
 
 unfoldable pub no_route_line : ℕ → List ℕ
 no_route_line i = number_line carrier_words i no_route_words
-
--- The answer of a search that has a route, or none; only contracts cite this.
-unfoldable pub answer_if : Bool → List ℕ → Answer
-answer_if true r = route r
-answer_if false r = none
 
 -- A conflict's beat is at most 63; only contracts cite this.
 unfoldable pub Early : ConflictAnswer → Type 0

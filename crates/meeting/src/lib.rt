@@ -2,46 +2,42 @@
 // the floor at that beat; of a refused sheet, or a carrier that is not there, the line of the refusal. For the program `desk`.
 #![tactic(auto)]
 
-ghost use Rattle.std.specs.Prelude.{◌≡◌, ℕ, ◌+◌, ◌≤◌, ◌<◌, List, length, take};
+ghost use Rattle.std.specs.Prelude.{◌≡◌, ◌+◌, ◌≤◌, ◌<◌, length, take};
 ghost use Rattle.io.specs.Counts.{IsPrefixLen};
-ghost use Rattle.laws.specs.Verdict.{passed, demand, value};
+ghost use Rattle.laws.specs.Verdict.{passed, demand};
 ghost use Rattle.floor.specs.Answers.{verdict_of};
 ghost use Rattle.floor.specs.Checks.{check_of, within};
-ghost use Rattle.route.specs.Route.{cell_at, Answer, route};
+ghost use Rattle.route.specs.Route.{cell_at, route};
 ghost use Rattle.route.specs.ConflictTest.{conflict_told};
-ghost use Rattle.search.specs.Answers.{Answers, outcome_of};
+ghost use Rattle.search.specs.Answers.{answer_of};
 ghost use Rattle.printing.specs.Put.{TextPut};
 ghost use Rattle.reporting.specs.Put.{PutAt};
 ghost use Rattle.drawing.specs.Drawing.{drawn_floor};
 ghost use Rattle.meeting.specs.Text.{alone_of, pair_verdict, number_line, conflict_line, no_route_line};
-ghost use Rattle.meeting.specs.Text.{answer_if, two_places, conflict_drawing, met_text, pair_text, meeting_text, Early};
+ghost use Rattle.meeting.specs.Text.{two_places, conflict_drawing, met_text, pair_text, meeting_text, Early};
 
 use drawing::Places;
-use floor::{Checked, Floor, Refusal};
+use floor::{Floor, Refusal};
 use reporting::{put_bytes, put_short_decimal};
-use route::{FirstConflict, Route};
-use search::{Found, Outcome};
+use route::{Conflict, Route};
 
 // The length of the longest text: a line of 31 bytes, and 32 rows of 33.
 pub const TEXT_LENGTH: usize = 1087;
 
 // Refusal 7, 0 for a carrier that is not there, of two.
-fn pair_listed(f: Floor, i: u16, j: u16) -> Checked
+fn pair_listed(f: Floor, i: u16, j: u16) -> Result<(), Refusal>
     ensures { verdict_of result ≡ pair_verdict f i j }
 {
-    let first = search::listed(f, i);
-    let Checked::Passed = first else {
-        return first;
-    };
+    search::listed(f, i)?;
     search::listed(f, j)
 }
 
-// The best route of a carrier of an accepted floor against nobody.
-fn alone(f: Floor, walls: &[u16], i: u16) -> Found
+// The best route of a carrier of an accepted floor against nobody, if it has one.
+fn alone(f: Floor, walls: &[u16], i: u16) -> Option<Route>
     requires { (check_of f walls.now ≡ passed) × (demand (within 1 f.carriers i) 7 0 ≡ passed) }
-    ensures { Answers result (value (alone_of f walls.now i)) }
+    ensures { answer_of result ≡ alone_of f walls.now i }
 {
-    search::search(f, walls, i, &records::blank())
+    search::search(f, walls, i, &records::blank()).unwrap()
 }
 
 // Puts words, a number and words behind it in front of a memory; the length of all is returned.
@@ -55,20 +51,20 @@ fn put_line(words: &[u8], n: usize, end: &[u8], out: &mut [u8]) -> usize
 }
 
 // Puts the line of a first conflict; its length is returned.
-fn put_conflict(found: FirstConflict, out: &mut [u8]) -> usize
+fn put_conflict(found: Option<Conflict>, out: &mut [u8]) -> usize
     requires { Early (conflict_told found) × (31 ≤ length out.old) }
     ensures { PutAt (conflict_line (conflict_told found)) out.old 0 out.new result }
 {
     match found {
-        FirstConflict::Free => put_bytes(out, 0, b"free\n"),
-        FirstConflict::SameCell(t) => put_line(b"same cell at beat ", t, b"\n", out),
-        FirstConflict::ChangeOfPlaces(t) => put_line(
+        None => put_bytes(out, 0, b"free\n"),
+        Some(Conflict::SameCell(t)) => put_line(b"same cell at beat ", t, b"\n", out),
+        Some(Conflict::ChangeOfPlaces(t)) => put_line(
             b"change of places after beat ",
             t,
             b"\n",
             out,
         ),
-        FirstConflict::Following(t) => put_line(b"following after beat ", t, b"\n", out),
+        Some(Conflict::Following(t)) => put_line(b"following after beat ", t, b"\n", out),
     }
 }
 
@@ -109,7 +105,7 @@ fn put_drawing(
     j: u16,
     r: Route,
     q: Route,
-    found: FirstConflict,
+    found: Option<Conflict>,
     out: &mut [u8],
 ) -> usize
     requires walls_value { (check_of f walls.now ≡ passed) × (pair_verdict f i j ≡ passed) }
@@ -118,10 +114,10 @@ fn put_drawing(
         out.new result }
 {
     match found {
-        FirstConflict::Free => 0,
-        FirstConflict::SameCell(t) => put_beat(f, walls, i, j, r, q, t, out),
-        FirstConflict::ChangeOfPlaces(t) => put_beat(f, walls, i, j, r, q, t, out),
-        FirstConflict::Following(t) => put_beat(f, walls, i, j, r, q, t, out),
+        None => 0,
+        Some(Conflict::SameCell(t)) => put_beat(f, walls, i, j, r, q, t, out),
+        Some(Conflict::ChangeOfPlaces(t)) => put_beat(f, walls, i, j, r, q, t, out),
+        Some(Conflict::Following(t)) => put_beat(f, walls, i, j, r, q, t, out),
     }
 }
 
@@ -144,35 +140,18 @@ fn put_none(i: u16, out: &mut [u8]) -> usize
     put_line(b"carrier ", i as usize, b" has no route\n", out)
 }
 
-// Whether a search that was not refused found a route; otherwise it found none.
-fn has_route(outcome: Outcome) -> bool
-    ensures { (cells : List ℕ) (y : Answer) → outcome_of outcome cells ≡ value y → y ≡ answer_if result cells }
-{
-    match outcome {
-        Outcome::Route => true,
-        Outcome::None => false,
-        Outcome::Refused(_) => false,
-    }
-}
-
 // Puts what the best routes of two carriers of an accepted floor, each against nobody, come to; the length of the text is returned.
 fn put_meeting(f: Floor, walls: &[u16], i: u16, j: u16, out: &mut [u8]) -> usize
     requires { (check_of f walls.now ≡ passed) × (pair_verdict f i j ≡ passed) × (1087 ≤ length out.old) }
     ensures { TextPut (met_text f walls.now i j (alone_of f walls.now i) (alone_of f walls.now j))
         out.old out.new result }
 {
-    let one = alone(f, walls, i);
-    let first = one.outcome;
-    let r = one.route;
-    if !has_route(first) {
+    let Some(r) = alone(f, walls, i) else {
         return put_none(i, out);
-    }
-    let other = alone(f, walls, j);
-    let second = other.outcome;
-    let q = other.route;
-    if !has_route(second) {
+    };
+    let Some(q) = alone(f, walls, j) else {
         return put_none(j, out);
-    }
+    };
     put_met(f, walls, i, j, r, q, out)
 }
 
@@ -182,12 +161,10 @@ fn put_pair(f: Floor, walls: &[u16], i: u16, j: u16, out: &mut [u8]) -> usize
     requires walls_in_bounds { (f.walls ≤ length walls.now) × (1087 ≤ length out.old) }
     ensures { TextPut (pair_text f (take f.walls walls.now) i j) out.old out.new result }
 {
-    let k = f.walls as usize;
-    let asked = pair_listed(f, i, j);
-    let Checked::Refused(x) = asked else {
-        return put_meeting(f, &walls[..k], i, j, out);
-    };
-    printing::put_refusal(x, out)
+    match pair_listed(f, i, j) {
+        Ok(()) => put_meeting(f, &walls[..f.walls as usize], i, j, out),
+        Err(x) => printing::put_refusal(x, out),
+    }
 }
 
 // Prints the meeting of two carriers of any text that is a sheet, and of any other text or carrier the line of its refusal; the number
@@ -197,11 +174,8 @@ pub fn print(text: &[u8], i: u16, j: u16, out: &mut [u8; TEXT_LENGTH]) -> usize
     ensures prints { take result out.new ≡ meeting_text text.now i j }
 {
     let mut walls = sheet::no_walls();
-    let reading = sheet::read(text, &mut walls);
-    let checked = reading.answer;
-    let f = reading.floor;
-    let Checked::Refused(x) = checked else {
-        return put_pair(f, &walls, i, j, out);
-    };
-    printing::put_refusal(x, out)
+    match sheet::read(text, &mut walls) {
+        Ok(f) => put_pair(f, &walls, i, j, out),
+        Err(x) => printing::put_refusal(x, out),
+    }
 }

@@ -33,7 +33,7 @@ pub fn tell(answers: &mut [u16], j: usize, plan: Option<Route>)
         return;
     };
     store(answers, 65 * j, 2);
-    for t in 0..64 {
-        store(answers, 65 * j + 1 + t, route[t]);
+    for (t, cell) in route.iter().enumerate() {
+        store(answers, 65 * j + 1 + t, *cell);
     }
 }

@@ -4,12 +4,12 @@ use native.Mathlib.Omega.{arith}
 use mathlib.Core.Path.{◌≡◌, refl, ◌∙◌}
 use mathlib.Core.List.{List}
 use lib.ListN.{length, take}
-use Rattle.std.specs.Prelude.{Result, Ok, IfOk}
 use Rattle.io.specs.Counts.{IsPrefixLen}
 use Rattle.laws.specs.Verdict.{Verdict, passed, refused, ◌then◌}
 use Rattle.floor.specs.declared.Floor.{Floor}
 use Rattle.floor.specs.declared.Refusal.{Refusal}
 use Rattle.fields.specs.Reached.{said_by}
+use Rattle.std.specs.Prelude.{Result, Ok, IfOk}
 use Rattle.floor.specs.Checks.{check_of}
 use Rattle.sheet.specs.Values.{floor_at, walls_at}
 use Rattle.sheet.specs.Read.{sheet_verdict, read_verdict, read_floor, read_walls}

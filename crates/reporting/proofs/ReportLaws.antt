@@ -8,11 +8,11 @@ use mathlib.Core.List.{List, [], ◌∷◌, ◌++◌}
 use borrow.Author.Tests.{ne_eqb}
 use lib.Dec.{eqb}
 use lib.ListN.{length, get_or, set, length-append}
-use lib.Seq.{drop-drop}
 use borrow.Rule.Slice.PartMut.{put_mid}
 use Rattle.laws.specs.Memory.{put}
 use Rattle.laws.proofs.PutLaws.{put_none, put_length, put_next}
 use Rattle.fields.specs.Field.{field_of}
+use Rattle.fields.proofs.StoreLaws.{put_copied}
 use Rattle.sheet.specs.Text.{line_of, lines_of}
 use Rattle.sheet.proofs.LineText.{line_length}
 use Rattle.sheet.proofs.LineLaws.{field_length, field_next, byte_next, newline_next}
@@ -24,10 +24,7 @@ use Rattle.reporting.specs.Put.{PutAt}
 -- Bytes copied to a part of their length stand at its column.
 pub part_put : (old bytes moved : List ℕ) (at n : ℕ) → moved ≡ bytes → n ≡ length bytes
     → PutAt bytes old at (put_mid at (at + n - at) old moved) (at + n)
-unfolding put
-part_put old bytes moved at n e s =
-    let size : at + n - at ≡ n = omega arith in
-    record { bytes = rw (e, size, drop-drop n at old, s) refl; behind = rw s refl }
+part_put old bytes moved at n e s = record { bytes = put_copied old bytes moved at n e (sym s); behind = rw s refl }
 
 -- A text behind a text.
 pub put_behind : {xs ys old mid new : List ℕ} {at n next : ℕ} → PutAt xs old at mid n → PutAt ys mid n new next → next ≤ length old

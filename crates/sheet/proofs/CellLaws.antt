@@ -1,7 +1,7 @@
 -- Cells as columns and rows.
 use Prim.Native.Nat.{ℕ, suc, ◌+◌, ◌*◌, ◌/◌, ◌%◌, ◌≤◌, ◌<◌}
 use native.Mathlib.Omega.{arith}
-use native.Mathlib.Nat.{mul-le-mul, mod-lt, mod-eq_of_lt, div-eq_of_lt, div-add-mod', div-lt_iff_lt-mul, mul-add-mod_self_right}
+use native.Mathlib.Nat.{mod-lt, mod-eq_of_lt, div-eq_of_lt, div-add-mod', div-lt_iff_lt-mul, mul-add-mod_self_right}
 use native.Mathlib.Nat.{mul-add-div_right, mul_comm, add-zero, mul-le-mul_right, suc-mul}
 use native.Mathlib.Decide.{dec_lt}
 use mathlib.Core.Path.{◌≡◌, ◌∙◌}
@@ -11,13 +11,6 @@ use borrow.Author.Tests.{lt-ltb, le-ltb}
 use lib.Dec.{ltb}
 use Rattle.fields.specs.Field.{number_at}
 use Rattle.sheet.specs.Values.{value_at, cell_of}
-
--- The product of two numbers up to 32.
-pub grid_small : {a b : ℕ} → a ≤ 32 → b ≤ 32 → a * b ≤ 1024
-grid_small h k = mul-le-mul h k
-
-pub rows_small : {row width height : ℕ} → row < height → (width ≤ 32) × (height ≤ 32) → row * width ≤ 1024
-rows_small l h = grid_small (omega arith) h.0
 
 -- A value below 65535 is the number in the text.
 pub value_number : (text : List ℕ) (at : ℕ) → value_at text at < 65535 → value_at text at ≡ number_at text at

@@ -44,10 +44,6 @@ module _ (φ : ℕ → ℕ) where
       rw (e, f, add-one, drop-cons old j 0, append_assoc)
       (set_at (listed φ j) (get_or old j 0) (drop (suc j) old) (φ j) j (listed_length j))
 
-  -- The memory keeps its length.
-  pub listed_keeps : (j : ℕ) (old m : List ℕ) → j ≤ length old → m ≡ listed φ j ++ drop j old → length m ≡ length old
-  listed_keeps j old m l e = rw (e, length-append, listed_length j, length-drop) (omega arith)
-
   -- After the last store.
   pub listed_end : (j k : ℕ) (old m : List ℕ) → j ≤ k → k ≤ j → m ≡ listed φ j ++ drop j old → m ≡ listed φ k ++ drop k old
   listed_end j k old m a b h =

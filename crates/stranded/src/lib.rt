@@ -16,7 +16,7 @@ ghost use Rattle.stranded.specs.Text.{carrier_text, or_nobody, stranded_text, bl
 ghost use Rattle.stranded.specs.Inner.{stranded_cell, places_in};
 
 use drawing::Places;
-use floor::{Checked, Floor};
+use floor::Floor;
 use records::{SIZE, TEAM};
 use reporting::put_bytes;
 
@@ -104,16 +104,6 @@ fn put_stranded(f: Floor, walls: &[u16], out: &mut [u8]) -> usize
     n + drawing::put_floor(f, walls, places(f, own), &mut out[n..])
 }
 
-// Puts the text for a floor that was read, with its walls in front of `walls`; its length is returned.
-fn put_read(f: Floor, walls: &[u16], out: &mut [u8]) -> usize
-    requires walls_value { check_of f (take f.walls walls.now) ≡ passed }
-    requires walls_in_bounds { (f.walls ≤ length walls.now) × (1416 ≤ length out.old) }
-    ensures { TextPut (stranded_text f (take f.walls walls.now)) out.old out.new result }
-{
-    let k = f.walls as usize;
-    put_stranded(f, &walls[..k], out)
-}
-
 // Prints who shuts the stranded carriers in of any text that is a sheet, and of any other text the line of its refusal; the number of
 // printed bytes is returned.
 pub fn print(text: &[u8], out: &mut [u8; TEXT_LENGTH]) -> usize
@@ -121,11 +111,11 @@ pub fn print(text: &[u8], out: &mut [u8; TEXT_LENGTH]) -> usize
     ensures prints { take result out.new ≡ blockers_text text.now }
 {
     let mut walls = sheet::no_walls();
-    let reading = sheet::read(text, &mut walls);
-    let checked = reading.answer;
-    let f = reading.floor;
-    let Checked::Refused(x) = checked else {
-        return put_read(f, &walls, out);
-    };
-    printing::put_refusal(x, out)
+    match sheet::read(text, &mut walls) {
+        Ok(f) => {
+            let k = f.walls as usize;
+            put_stranded(f, &walls[..k], out)
+        }
+        Err(x) => printing::put_refusal(x, out),
+    }
 }

@@ -62,6 +62,7 @@ pub fn narrow(x: usize) -> u16 {
 }
 
 // A sum of places, 131,072 where one of them is no place of these memories or of the script, which has at most 131,072 bytes.
+// Kept, and no `saturating_add`: what a script of full length is answered, whose numbers go past its end, stays as it was.
 pub fn plus(a: usize, b: usize) -> usize {
     if a < 131072 && b < 131072 {
         a + b

@@ -14,9 +14,10 @@
 
 ghost use Rattle.std.specs.Prelude.{◌≡◌, length};
 
-use console::Input;
+use console::Failed;
+use std::convert::AsSlice;
 use std::io::{Result, Write};
-use testkit::{bytes, fields, memory, show};
+use testkit::{fields, memory, show};
 
 // Room for the script: twice a large buffer.
 fn script_room() -> [u8; 131072]
@@ -25,46 +26,16 @@ fn script_room() -> [u8; 131072]
     [0; 131072]
 }
 
-// Prints why a sheet is refused.
-fn why<W: Write>(writer: &mut W, sheet: &[u8]) -> Result<()> {
-    let mut out = [0u8; reasons::TEXT_LENGTH];
-    let n = reasons::print(sheet, &mut out);
-    show::text(writer, &out[..n])
-}
-
-// Prints the picture of a sheet.
-fn draw<W: Write>(writer: &mut W, sheet: &[u8]) -> Result<()> {
-    let mut out = io::large_buffer();
-    let n = picture::print(sheet, &mut out);
-    show::text(writer, &out[..n])
-}
-
-// Prints the meeting of two carriers of a sheet.
-fn meet<W: Write>(writer: &mut W, sheet: &[u8], i: u16, j: u16) -> Result<()> {
-    let mut out = [0u8; meeting::TEXT_LENGTH];
-    let n = meeting::print(sheet, i, j, &mut out);
-    show::text(writer, &out[..n])
-}
-
-// Prints who shuts the stranded carriers of a sheet in.
-fn shut<W: Write>(writer: &mut W, sheet: &[u8]) -> Result<()> {
-    let mut out = [0u8; stranded::TEXT_LENGTH];
-    let n = stranded::print(sheet, &mut out);
-    show::text(writer, &out[..n])
-}
-
-// Prints the floor of a sheet beat by beat.
-fn draw_all<W: Write>(writer: &mut W, sheet: &[u8]) -> Result<()> {
-    let mut out = frames::no_text();
-    let n = frames::print(sheet, &mut out);
-    show::text(writer, &out[..n])
-}
-
-// Prints the floor of a sheet at a beat, nothing where it is above the horizon.
-fn draw_beat<W: Write>(writer: &mut W, sheet: &[u8], t: u16) -> Result<()> {
-    let mut out = [0u8; frames::BEAT_LENGTH];
-    let n = frames::print_beat(sheet, t, &mut out);
-    show::text(writer, &out[..n])
+// Has a text printed into memory, by a function that answers how long it is, and writes it.
+fn show_printed<W: Write, B: AsSlice<u8> + Drop, P: FnOnce(&mut B) -> usize>(
+    writer: &mut W,
+    mut room: B,
+    print: P,
+) -> Result<()>
+    requires { P.IsAlwaysCallable print }
+{
+    let n = print(&mut room);
+    show::text(writer, memory::part(room.as_slice(), 0, n))
 }
 
 // Prints the sheet of a map, or what is wrong with it.
@@ -72,15 +43,13 @@ fn read_map<W: Write>(writer: &mut W, map: &[u8]) -> Result<()> {
     let mut out = map_reader::no_sheet();
     let mut words = [0u8; map_reader::WORDS];
     let printed = map_reader::print(map, &mut out, &mut words);
-    let n = printed.sheet;
-    let w = printed.words;
-    show::text(writer, &out[..n])?;
-    show::text(writer, &words[..w])
+    show::text(writer, &out[..printed.sheet])?;
+    show::text(writer, &words[..printed.words])
 }
 
 // The place of a section's length among its numbers: behind the two carriers of `meeting` and the beat of `at`.
 fn length_place(text: &[u8]) -> usize {
-    match bytes::byte(text, 2) {
+    match memory::at(text, 2) {
         b'm' => 2,
         b'a' => 1,
         _ => 0,
@@ -89,56 +58,58 @@ fn length_place(text: &[u8]) -> usize {
 
 // Prints what the command of a section, by its first letter, prints for a sheet.
 fn run<W: Write>(writer: &mut W, text: &[u8], sheet: &[u8]) -> Result<()> {
-    match bytes::byte(text, 2) {
-        b'w' => why(writer, sheet),
-        b'p' => draw(writer, sheet),
-        b'm' => meet(
-            writer,
-            sheet,
-            memory::narrow(fields::field(text, 0)),
-            memory::narrow(fields::field(text, 1)),
-        ),
-        b'b' => shut(writer, sheet),
-        b'd' => draw_all(writer, sheet),
-        b'a' => draw_beat(writer, sheet, memory::narrow(fields::field(text, 0))),
+    let number = |k: usize| memory::narrow(fields::field(text, k));
+    match memory::at(text, 2) {
+        b'w' => show_printed(writer, [0; reasons::TEXT_LENGTH], |out| {
+            reasons::print(sheet, out)
+        }),
+        b'p' => show_printed(writer, io::large_buffer(), |out| picture::print(sheet, out)),
+        b'm' => show_printed(writer, [0; meeting::TEXT_LENGTH], |out| {
+            meeting::print(sheet, number(0), number(1), out)
+        }),
+        b'b' => show_printed(writer, [0; stranded::TEXT_LENGTH], |out| {
+            stranded::print(sheet, out)
+        }),
+        b'd' => show_printed(writer, frames::no_text(), |out| frames::print(sheet, out)),
+        b'a' => show_printed(writer, [0; frames::BEAT_LENGTH], |out| {
+            frames::print_beat(sheet, number(0), out)
+        }),
         b's' => read_map(writer, sheet),
         _ => Ok(()),
     }
 }
 
 // Plays the section at the front of a script; its length is returned.
-fn section<W: Write>(writer: &mut W, bytes: &[u8]) -> Result<usize> {
-    let end = memory::plus(fields::end(bytes), 1);
-    let n = fields::field(bytes, length_place(bytes));
-    show::text(writer, bytes::part(bytes, 0, end))?;
-    run(writer, bytes, bytes::part(bytes, end, n))?;
+fn section<W: Write>(writer: &mut W, script: &[u8]) -> Result<usize> {
+    let end = memory::plus(fields::end(script), 1);
+    let n = fields::field(script, length_place(script));
+    show::text(writer, memory::part(script, 0, end))?;
+    run(writer, script, memory::part(script, end, n))?;
     Ok(memory::plus(memory::plus(end, n), 1))
 }
 
 // Plays the sections of a script, of which there are fewer than 1,000.
 fn play<W: Write>(writer: &mut W, script: &[u8]) -> Result<()> {
-    let mut at: usize = 0;
-    let mut k: usize = 0;
-    while k < 1000 {
-        if script.len() <= at {
-            return Ok(());
+    let mut rest = script;
+    for _ in 0..1000 {
+        if rest.is_empty() {
+            break;
         }
-        at = memory::plus(at, section(writer, &script[at..])?);
-        k += 1;
+        let n = section(writer, rest)?;
+        rest = rest.get(n..).unwrap_or(&[]);
     }
     Ok(())
 }
 
 fn main(rt: HostRuntime) -> Result<()> {
     let mut space = script_room();
-    let input = console::read(
+    match console::read(
         &mut rt.stdin(),
         &mut rt.stderr(),
         b"tryouts: standard input",
         &mut space,
-    );
-    let Input::Read(n) = input else {
-        return Ok(());
-    };
-    play(&mut rt.stdout(), &space[..n])
+    ) {
+        Ok(n) => play(&mut rt.stdout(), &space[..n]),
+        Err(Failed) => Ok(()),
+    }
 }

@@ -1,33 +1,39 @@
 -- `meeting::put_drawing` meets its contract: case by case.
 use Rattle.route.specs.ConflictTest.{conflict_told}
 use Rattle.meeting.specs.Text.{conflict_drawing}
-use Rattle.meeting.proofs.MeetingLaws.{early, nothing_put, drawing_case}
+use Rattle.meeting.proofs.MeetingLaws.{same_early, change_early, following_early, found_is, nothing_put, drawing_case}
 use Rattle.meeting.proofs.put_drawing.Goals as goal
 
 pub put_beat-requires : goal.put_beat-requires
-unfolding conflict_told conflict_drawing
-put_beat-requires c = search early
+put_beat-requires c =
+    let e = c.requires.early in
+    (c.requires.walls_value.0, c.requires.walls_value.1, same_early e.0 (found_is c.in-Some-SameCell.is (rw c.in-Some-SameCell.is at c.in-Some-SameCell.field-0-is)), e.1)
 
-pub put_beat-requires-in-ChangeOfPlaces : goal.put_beat-requires-in-ChangeOfPlaces
-unfolding conflict_told conflict_drawing
-put_beat-requires-in-ChangeOfPlaces c = search early
+pub put_beat-requires-in-Some-ChangeOfPlaces : goal.put_beat-requires-in-Some-ChangeOfPlaces
+put_beat-requires-in-Some-ChangeOfPlaces c =
+    let e = c.requires.early in
+    (c.requires.walls_value.0, c.requires.walls_value.1, change_early e.0 (found_is c.in-Some-ChangeOfPlaces.is (rw c.in-Some-ChangeOfPlaces.is at c.in-Some-ChangeOfPlaces.field-0-is)), e.1)
 
-pub put_beat-requires-in-Following : goal.put_beat-requires-in-Following
-unfolding conflict_told conflict_drawing
-put_beat-requires-in-Following c = search early
+pub put_beat-requires-in-Some-Following : goal.put_beat-requires-in-Some-Following
+put_beat-requires-in-Some-Following c =
+    let e = c.requires.early in
+    (c.requires.walls_value.0, c.requires.walls_value.1, following_early e.0 (found_is c.in-Some-Following.is (rw c.in-Some-Following.is at c.in-Some-Following.field-0-is)), e.1)
 
-pub returns-in-Free : goal.returns-in-Free
+pub returns-in-None : goal.returns-in-None
 unfolding conflict_told conflict_drawing
-returns-in-Free c = search (drawing_case, nothing_put)
+returns-in-None c = drawing_case _ _ _ _ _ _ _ _ _ _ _ c.in-None.is (nothing_put _)
 
-pub returns-in-SameCell : goal.returns-in-SameCell
+pub returns-in-Some-SameCell : goal.returns-in-Some-SameCell
 unfolding conflict_told conflict_drawing
-returns-in-SameCell c = search drawing_case
+returns-in-Some-SameCell c =
+    drawing_case _ _ _ _ _ _ _ _ _ _ _ (found_is c.in-Some-SameCell.is (rw c.in-Some-SameCell.is at c.in-Some-SameCell.field-0-is)) c.put_beat.ensures
 
-pub returns-in-ChangeOfPlaces : goal.returns-in-ChangeOfPlaces
+pub returns-in-Some-ChangeOfPlaces : goal.returns-in-Some-ChangeOfPlaces
 unfolding conflict_told conflict_drawing
-returns-in-ChangeOfPlaces c = search drawing_case
+returns-in-Some-ChangeOfPlaces c =
+    drawing_case _ _ _ _ _ _ _ _ _ _ _ (found_is c.in-Some-ChangeOfPlaces.is (rw c.in-Some-ChangeOfPlaces.is at c.in-Some-ChangeOfPlaces.field-0-is)) c.put_beat-in-Some-ChangeOfPlaces.ensures
 
-pub returns-in-Following : goal.returns-in-Following
+pub returns-in-Some-Following : goal.returns-in-Some-Following
 unfolding conflict_told conflict_drawing
-returns-in-Following c = search drawing_case
+returns-in-Some-Following c =
+    drawing_case _ _ _ _ _ _ _ _ _ _ _ (found_is c.in-Some-Following.is (rw c.in-Some-Following.is at c.in-Some-Following.field-0-is)) c.put_beat-in-Some-Following.ensures

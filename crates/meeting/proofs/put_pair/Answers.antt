@@ -12,19 +12,19 @@ slice_bounds-put_meeting-end c =
 
 pub put_meeting-requires : goal.put_meeting-requires
 put_meeting-requires c =
-    (c.requires.walls_value, passes c.pair_listed-asked.ensures c.in_default.is, c.requires.walls_in_bounds.1)
+    (c.requires.walls_value, passes c.pair_listed.ensures c.in-Ok.is, c.requires.walls_in_bounds.1)
 
-pub returns-in_default : goal.returns-in_default
-returns-in_default c =
-    pair_put _ _ _ _ _ _ _ (passes c.pair_listed-asked.ensures c.in_default.is)
+pub returns-in-Ok : goal.returns-in-Ok
+returns-in-Ok c =
+    pair_put _ _ _ _ _ _ _ (passes c.pair_listed.ensures c.in-Ok.is)
     c.put_meeting.ensures
 
 pub put_refusal-requires : goal.put_refusal-requires
 put_refusal-requires c =
-    let zero = pair_place _ _ _ _ _ (refuses c.pair_listed-asked.ensures c.in-Refused.is) in
+    let zero = pair_place _ _ _ _ _ (refuses c.pair_listed.ensures c.in-Err.is) in
     (omega arith, omega (arith, c.requires.walls_in_bounds.1))
 
-pub returns : goal.returns
-returns c =
-    pair_refused _ _ _ _ _ _ _ _ _ (refuses c.pair_listed-asked.ensures c.in-Refused.is)
+pub returns-in-Err : goal.returns-in-Err
+returns-in-Err c =
+    pair_refused _ _ _ _ _ _ _ _ _ (refuses c.pair_listed.ensures c.in-Err.is)
     c.put_refusal.ensures

@@ -1,30 +1,39 @@
--- `stranded::print` meets its contract: the reader's verdict decides between the floor's text and the refusal's line.
-use Rattle.printing.proofs.PrintLaws.{was_read, was_refused, place_small}
-use Rattle.reporting.proofs.PrintedLaws.{read_granted, read_printed, refused_printed}
+-- `stranded::print` meets its contract: the reader's answer decides between the floor's text and the refusal's line.
+use mathlib.Core.Path.{sym}
+use lib.Seq.{length-take-le}
+use Rattle.printing.proofs.PrintLaws.{WasRead, was_read, was_refused, place_small}
+use Rattle.reporting.proofs.PrintedLaws.{read_printed, refused_printed}
 use Rattle.stranded.specs.Text.{blockers_text}
 use Rattle.stranded.proofs.StrandedLaws.{stranded_within}
 use native.Mathlib.Omega.{arith}
 use Rattle.stranded.proofs.print.Goals as goal
+use Rattle.stranded.proofs.print.Goals.{In-Ok}
 
-pub put_read-requires : goal.put_read-requires
-unfolding blockers_text
-put_read-requires c =
-    let both = read_granted _ _ _ _
-    (c.read-reading.ensures.answers, (c.read-reading.ensures.returns, c.read-reading.ensures.stores)) (search) (search) (omega arith) in
-    record { walls_value = both.0; walls_in_bounds = both.1 }
+read : (c : In-Ok) → WasRead c.args.text.now c.in-Ok.f c.read.new.walls
+read c = was_read _ _ _ _ c.no_walls-walls.ensures (c.read.ensures.answers, (c.read.ensures.returns, c.read.ensures.stores)) c.in-Ok.is
 
-pub returns-in_default : goal.returns-in_default
+pub slice_bounds-walls-end : goal.slice_bounds-walls-end
+slice_bounds-walls-end c = (read (goal.at.slice_bounds-walls-end c).In-Ok).lent
+
+pub slice_bounds-put_stranded-end : goal.slice_bounds-put_stranded-end
+slice_bounds-put_stranded-end c = sym (length-take-le _ _ (read (goal.at.slice_bounds-put_stranded-end c).In-Ok).lent)
+
+pub put_stranded-requires : goal.put_stranded-requires
+put_stranded-requires c =
+    let w = read (goal.at.put_stranded-requires c).In-Ok in
+    (w.checked, omega arith)
+
+pub returns-in-Ok : goal.returns-in-Ok
 unfolding blockers_text
-returns-in_default c =
-    let both = read_printed _ _ _ _ stranded_within c.put_read.ensures (search was_read) (omega arith) in
+returns-in-Ok c =
+    let both = read_printed _ _ _ _ stranded_within c.put_stranded.ensures (read (goal.at.returns-in-Ok c).In-Ok) (omega arith) in
     record { counts = both.0; prints = both.1 }
 
 pub put_refusal-requires : goal.put_refusal-requires
-unfolding blockers_text
-put_refusal-requires c = (search place_small, omega arith)
+put_refusal-requires c = (place_small _ _ c.no_walls-walls.ensures c.read.ensures.answers c.in-Err.is, omega arith)
 
-pub returns : goal.returns
+pub returns-in-Err : goal.returns-in-Err
 unfolding blockers_text
-returns c =
-    let both = refused_printed _ _ c.put_refusal.ensures (search was_refused) (omega arith) in
+returns-in-Err c =
+    let both = refused_printed _ _ c.put_refusal.ensures (was_refused _ _ c.no_walls-walls.ensures c.read.ensures.answers c.in-Err.is) (omega arith) in
     record { counts = both.0; prints = both.1 }
