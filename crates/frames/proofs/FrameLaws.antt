@@ -25,7 +25,7 @@ use Rattle.reporting.proofs.PrintedLaws.{PrintsWithin}
 use Rattle.blockers.specs.Inner.{PlanIn}
 use Rattle.reporting.specs.Words.{short_decimal, carrier_words}
 use Rattle.maps.specs.Map.{map_of}
-use Rattle.maps.proofs.LinesLaws.{nothing_put}
+use Rattle.reporting.proofs.LinesLaws.{nothing_put}
 use Rattle.maps.proofs.MarkLaws.{cond_short}
 use Rattle.maps.proofs.MapLaws.{grid_short, map_short}
 use Rattle.frames.specs.Text.{arrives_words, stays_words, beat_words, frame_rows, frame_of, arrival_words}

@@ -11,7 +11,7 @@ use lib.Seq.{get_or-append_seam}
 use Rattle.laws.proofs.PutLaws.{put_one}
 use Rattle.sheet.specs.Text.{lines_of}
 use Rattle.reporting.specs.Put.{PutAt}
-use Rattle.maps.proofs.LinesLaws.{nothing_put, put_keeps, lines_start, lines_low, lines_more}
+use Rattle.reporting.proofs.LinesLaws.{nothing_put, put_keeps, lines_start, lines_low, lines_more}
 use Rattle.maps.proofs.MarkLaws.{cond_short}
 use Rattle.map_reader.specs.Marks.{cells_where}
 

@@ -11,7 +11,7 @@ use Rattle.laws.proofs.PutLaws.{put_front}
 use Rattle.laws.proofs.PartLaws.{part_length}
 use Rattle.reporting.specs.Put.{PutAt}
 use Rattle.reporting.proofs.ReportLaws.{part_put}
-use Rattle.maps.proofs.LinesLaws.{put_keeps, lines_start, lines_low, lines_more}
+use Rattle.reporting.proofs.LinesLaws.{put_keeps, lines_start, lines_low, lines_more}
 use Rattle.map_reader.specs.declared.rows.Shape.{Shape}
 use Rattle.map_reader.specs.Told.{rows_in}
 use Rattle.map_reader.specs.Inner.{RowCopied, RowsRead, RowsIn}

@@ -3,59 +3,64 @@
 ghost use Rattle.std.specs.Prelude.{◌≡◌, ◌+◌, ◌*◌, ◌≤◌, ◌<◌, length};
 ghost use Rattle.map_reader.specs.Inner.{ReadWithin};
 
+use crate::line::Line;
 use crate::problems::Problem;
 use crate::tokens;
 
 // The places of the table.
+// Kept: numbers, since `is_thing` of specs/Marks.antt, under the clause `tells` of `print`, reads the table as numbers.
 pub const LETTERS: usize = 442;
 
-// Reads the marks of a letter's line from its third byte on into 16 places; the column behind its newline is answered. The places are empty
-// before.
-fn read_things(text: &[u8], first: usize, line: u16, own: &mut [u8; 16]) -> Result<usize, Problem>
-    requires { first ≤ length text.now }
-    ensures { ReadWithin first (length text.now) result }
+// Reads the marks of a letter's line from its third byte on into 16 places, which are empty before; the column behind its newline is
+// answered.
+fn read_things(line: &Line, own: &mut [u8; 16]) -> Result<usize, Problem>
+    requires { line.now.at + 2 ≤ length line.now.text.now }
+    ensures { ReadWithin line.now.at (length line.now.text.now) result }
 {
+    let first = line.at + 2;
     for k in 0..17 {
-        if text.len() - first <= k {
-            return Err(Problem::Unended { line });
+        if line.text.len() - first <= k {
+            return Err(Problem::Unended { line: line.number });
         }
-        let byte = text[first + k];
+        let byte = line.text[first + k];
         if byte == b'\n' {
             return Ok(first + k + 1);
         }
         let column = k as u16 + 3;
         let Some(thing) = tokens::thing_of(byte) else {
-            return Err(Problem::NoMark { line, column, byte });
+            return Err(Problem::NoMark {
+                line: line.number,
+                column,
+                byte,
+            });
         };
         if own[thing] == 1 {
-            return Err(Problem::Twice { line, column, byte });
+            return Err(Problem::Twice {
+                line: line.number,
+                column,
+                byte,
+            });
         }
         own[thing] = 1;
     }
-    Err(Problem::FewMarks { line })
+    Err(Problem::FewMarks { line: line.number })
 }
 
 // Reads the line of a letter, whose place is below 26; the column behind its newline is answered.
-fn read_letter(
-    text: &[u8],
-    at: usize,
-    line: u16,
-    letter: usize,
-    table: &mut [u8],
-) -> Result<usize, Problem>
-    requires { (letter < 26) × (at + 2 ≤ length text.now) × (442 ≤ length table.old) }
-    ensures { ReadWithin at (length text.now) result }
+fn read_letter(line: &Line, letter: usize, table: &mut [u8]) -> Result<usize, Problem>
+    requires { (letter < 26) × (line.now.at + 2 ≤ length line.now.text.now) × (442 ≤ length table.old) }
+    ensures { ReadWithin line.now.at (length line.now.text.now) result }
 {
     let base = 17 * letter;
     let mut own = [0u8; 16];
-    let next = read_things(text, at + 2, line, &mut own)?;
+    let next = read_things(line, &mut own)?;
     if own.iter().filter(|x| **x == 1).count() < 2 {
-        return Err(Problem::FewMarks { line });
+        return Err(Problem::FewMarks { line: line.number });
     }
     if table[base + 16] == 1 {
         return Err(Problem::SecondLine {
-            line,
-            byte: text[at],
+            line: line.number,
+            byte: line.text[line.at],
         });
     }
     table[base..base + 16].copy_from_slice(&own);
@@ -63,27 +68,22 @@ fn read_letter(
     Ok(next)
 }
 
-// Reads the line at a column, which must be that of a letter among the marks; the column behind its newline is answered.
-fn read_line(
-    text: &[u8],
-    at: usize,
-    line: u16,
-    marks: &[u8],
-    table: &mut [u8],
-) -> Result<usize, Problem>
-    requires { (at < length text.now) × (442 ≤ length table.old) }
-    ensures { ReadWithin at (length text.now) result }
+// Reads a line, which must be that of a letter among the marks; the column behind its newline is answered.
+fn read_line(line: &Line, marks: &[u8], table: &mut [u8]) -> Result<usize, Problem>
+    requires { 442 ≤ length table.old }
+    ensures { ReadWithin line.now.at (length line.now.text.now) result }
 {
-    let byte = text[at];
+    let byte = line.text[line.at];
+    let number = line.number;
     let Some(letter) = tokens::letter_of(byte) else {
-        return Err(Problem::NoLetter { line, byte });
+        return Err(Problem::NoLetter { line: number, byte });
     };
-    if text.len() - at < 2 || text[at + 1] != b' ' {
-        return Err(Problem::NoSpace { line });
+    if line.text.len() - line.at < 2 || line.text[line.at + 1] != b' ' {
+        return Err(Problem::NoSpace { line: number });
     }
-    let next = read_letter(text, at, line, letter, table)?;
+    let next = read_letter(line, letter, table)?;
     if !marks.contains(&byte) {
-        return Err(Problem::Unused { line, byte });
+        return Err(Problem::Unused { line: number, byte });
     }
     Ok(next)
 }
@@ -92,18 +92,23 @@ fn read_line(
 pub fn read_letters(
     text: &[u8],
     first: usize,
-    line: u16,
+    number: u16,
     marks: &[u8],
     table: &mut [u8],
 ) -> Result<(), Problem>
-    requires { (first ≤ length text.now) × (line ≤ 34) × (442 ≤ length table.old) }
+    requires { (first ≤ length text.now) × (number ≤ 34) × (442 ≤ length table.old) }
 {
     let mut at = first;
     for k in 0..27 {
         if at == text.len() {
             break;
         }
-        at = read_line(text, at, line + k, marks, table)?;
+        let line = Line {
+            text,
+            at,
+            number: number + k,
+        };
+        at = read_line(&line, marks, table)?;
     }
     Ok(())
 }

@@ -3,6 +3,7 @@
 
 mod build;
 mod letters;
+mod line;
 mod problems;
 mod rows;
 mod tokens;
@@ -29,6 +30,7 @@ pub const SHEET_LENGTH: usize = 11732;
 const CELLS: usize = 1024;
 
 // What is printed for a map.
+// Kept: the clause `tells` of `print`, which docs/CLAIMS.md names, speaks of the sheet's length, 0 with a refusal.
 #[derive(Clone, Copy)]
 pub struct PrintedMap {
     // The length of the sheet; 0 with a refusal.

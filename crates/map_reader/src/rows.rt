@@ -2,6 +2,7 @@
 ghost use Rattle.std.specs.Prelude.{◌+◌, ◌≤◌, ◌<◌, length};
 ghost use Rattle.map_reader.specs.Inner.{RowRead, ShapeRead};
 
+use crate::line::Line;
 use crate::problems::Problem;
 use crate::tokens;
 
@@ -14,80 +15,50 @@ pub struct Shape {
     pub next: usize,
 }
 
-// The column of the newline of the line at a column, looked for in 33 bytes; the last column looked at where it is not there.
-fn line_end(text: &[u8], at: usize) -> usize
-    requires { at ≤ length text.now }
-    ensures { (at ≤ result) × (result ≤ length text.now) × (result ≤ at + 33) }
+// Copies the w marks of a line to a base; the column behind their newline is answered.
+fn copy_row(line: &Line, w: usize, base: usize, marks: &mut [u8]) -> Result<usize, Problem>
+    requires { (w ≤ 32) × (line.now.at + w < length line.now.text.now) × (base + w ≤ length marks.old) }
+    ensures { RowRead line.now.text.now line.now.at w marks.old base marks.new result }
 {
-    let n = (text.len() - at).min(33);
-    let seen = &text[at..at + n];
-    at + seen.iter().position(|b| *b == b'\n').unwrap_or(n)
-}
-
-// Whether the line at a column is that of a letter: its second byte is a space.
-pub fn is_letters(text: &[u8], at: usize) -> bool
-    requires { at < length text.now }
-{
-    text.len() - at >= 2 && text[at] != b'\n' && text[at + 1] == b' '
-}
-
-// Copies the w marks at a column to a base; the column behind their newline is answered.
-fn copy_row(
-    text: &[u8],
-    at: usize,
-    w: usize,
-    line: u16,
-    base: usize,
-    marks: &mut [u8],
-) -> Result<usize, Problem>
-    requires { (w ≤ 32) × (at + w < length text.now) × (base + w ≤ length marks.old) }
-    ensures { RowRead text.now at w marks.old base marks.new result }
-{
-    let row = &text[at..at + w];
+    let row = &line.text[line.at..line.at + w];
     for (k, &byte) in row.iter().enumerate() {
         if !tokens::is_mark(byte) {
             return Err(Problem::NoMark {
-                line,
+                line: line.number,
                 column: k as u16 + 1,
                 byte,
             });
         }
     }
     marks[base..base + w].copy_from_slice(row);
-    Ok(at + w + 1)
+    Ok(line.at + w + 1)
 }
 
-// Reads the row at a column, which must have w cells; the column behind its newline is answered.
-fn read_row(
-    text: &[u8],
-    at: usize,
-    w: usize,
-    line: u16,
-    base: usize,
-    marks: &mut [u8],
-) -> Result<usize, Problem>
-    requires { (w ≤ 32) × (at < length text.now) × (base + 32 ≤ length marks.old) }
-    ensures { RowRead text.now at w marks.old base marks.new result }
+// Reads a row, which must have w cells; the column behind its newline is answered.
+fn read_row(line: &Line, w: usize, base: usize, marks: &mut [u8]) -> Result<usize, Problem>
+    requires { (w ≤ 32) × (base + 32 ≤ length marks.old) }
+    ensures { RowRead line.now.text.now line.now.at w marks.old base marks.new result }
 {
-    let end = line_end(text, at);
-    let n = end - at;
+    let end = line.end();
+    let n = end - line.at;
+    let number = line.number;
     if n > 32 {
-        return Err(Problem::Wide { line });
+        return Err(Problem::Wide { line: number });
     }
-    if end == text.len() {
-        return Err(Problem::Unended { line });
+    if end == line.text.len() {
+        return Err(Problem::Unended { line: number });
     }
     if n == 0 {
-        return Err(Problem::Empty { line });
+        return Err(Problem::Empty { line: number });
     }
     if n != w {
         return Err(Problem::Uneven {
-            line,
+            line: number,
             cells: n as u16,
             width: w as u16,
         });
     }
-    copy_row(text, at, w, line, base, marks)
+    copy_row(line, w, base, marks)
 }
 
 // Reads rows of w cells from a column on, to the first line of a letter or the end.
@@ -98,11 +69,20 @@ fn rows_from(text: &[u8], first: usize, w: usize, marks: &mut [u8]) -> Result<Sh
     let mut at = first;
     let mut height: usize = 0;
     let mut cells: usize = 0;
-    while at < text.len() && !is_letters(text, at) {
+    // Kept: the loop goes from line to line, and a `for` over the rows would end in two places.
+    while at < text.len() {
+        let line = Line {
+            text,
+            at,
+            number: height as u16 + 2,
+        };
+        if line.is_letters() {
+            break;
+        }
         if height == 32 {
             return Err(Problem::ManyRows);
         }
-        at = read_row(text, at, w, height as u16 + 2, cells, marks)?;
+        at = read_row(&line, w, cells, marks)?;
         cells += w;
         height += 1;
     }
@@ -119,10 +99,18 @@ pub fn read_rows(text: &[u8], first: usize, marks: &mut [u8]) -> Result<Shape, P
     requires { (first ≤ length text.now) × (1024 ≤ length marks.old) }
     ensures { ShapeRead text.now first marks.old marks.new result }
 {
-    if first == text.len() || is_letters(text, first) {
+    if first == text.len() {
         return Err(Problem::NoRow);
     }
-    match line_end(text, first) - first {
+    let line = Line {
+        text,
+        at: first,
+        number: 2,
+    };
+    if line.is_letters() {
+        return Err(Problem::NoRow);
+    }
+    match line.end() - first {
         0 => Err(Problem::Empty { line: 2 }),
         33 => Err(Problem::Wide { line: 2 }),
         w => rows_from(text, first, w, marks),

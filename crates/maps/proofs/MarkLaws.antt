@@ -16,7 +16,8 @@ use Rattle.printing.proofs.LinesLaws.{lines_within}
 use Rattle.reporting.specs.Put.{PutAt}
 use Rattle.maps.specs.Text.{one_of}
 use Rattle.maps.specs.Map.{start_mark, dock_mark, start_marks, dock_marks, marks_of, shared_below, letter_of, map_mark}
-use Rattle.maps.proofs.LinesLaws.{nothing_put, first_byte}
+use Rattle.reporting.proofs.LinesLaws.{nothing_put}
+use Rattle.maps.proofs.LinesLaws.{first_byte}
 
 -- Any of the first k numbers is c where c is among them.
 pub any_among : (xs : List ℕ) (c k : ℕ) → k ≤ length xs → list_any (λ y. eqb y c) (take k xs) ≡ among xs k c

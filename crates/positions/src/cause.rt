@@ -3,6 +3,7 @@
 ghost use Rattle.std.specs.Prelude.{◌≤◌};
 
 use crate::sheet_line;
+use floor::{Reason, Refusal};
 
 // The column at which the line of an item begins.
 pub fn item_start(text: &[u8], item: usize) -> usize
@@ -90,21 +91,17 @@ fn repeated_field(text: &[u8], start: usize) -> usize
 }
 
 // The field of an item's line that is the cause of a refusal.
-pub fn cause(text: &[u8], number: u16, item: usize) -> usize
-    requires { item ≤ 99999 }
+pub fn cause(text: &[u8], x: Refusal) -> usize
+    requires { x.place ≤ 99999 }
     ensures { result ≤ 10 }
 {
-    let start = item_start(text, item);
-    if number == 3 {
-        return outside_field(text, start);
+    let start = item_start(text, x.place);
+    match x.reason {
+        Reason::OutsideGrid => outside_field(text, start),
+        Reason::OnWall => wall_field(text, start),
+        Reason::RepeatedDock => repeated_field(text, start),
+        _ => 0,
     }
-    if number == 5 {
-        return wall_field(text, start);
-    }
-    if number == 17 {
-        return repeated_field(text, start);
-    }
-    0
 }
 
 // The carrier with the start of an item's line.

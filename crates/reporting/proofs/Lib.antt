@@ -3,3 +3,4 @@ pub mod WordsLaws
 pub mod ReportLaws
 pub mod TextLaws
 pub mod PrintedLaws
+pub mod LinesLaws

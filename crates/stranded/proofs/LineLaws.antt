@@ -1,7 +1,6 @@
--- Lines put one behind the other, and the lengths of the lines of stranded carriers.
-use Prim.Native.Nat.{ℕ, ◌+◌, ◌*◌, ◌≤◌}
+-- The lines of stranded carriers, and their lengths.
+use Prim.Native.Nat.{ℕ, ◌+◌, ◌≤◌}
 use native.Mathlib.Omega.{arith}
-use native.Mathlib.Numerals.{add-one}
 use mathlib.Core.Bool.{Bool, true, false, cond}
 use mathlib.Core.List.{List, [], ◌∷◌, ◌++◌}
 use mathlib.Core.Path.{◌≡◌, refl, sym, ◌∙◌, ap}
@@ -9,7 +8,7 @@ use borrow.Author.Tests.{eq-eqb, ne_eqb}
 use lib.Dec.{eqb}
 use lib.ListN.{length, length-append}
 use Rattle.laws.specs.Memory.{put}
-use Rattle.laws.proofs.PutLaws.{put_none, put_length}
+use Rattle.laws.proofs.PutLaws.{put_none}
 use Rattle.reporting.specs.Words.{carrier_words}
 use Rattle.floor.specs.declared.Floor.{Floor}
 use Rattle.route.specs.Route.{Answer, none, route}
@@ -20,36 +19,10 @@ use Rattle.planner.specs.Claims.{answer_at}
 use Rattle.printing.proofs.LinesLaws.{lines_within}
 use Rattle.reporting.specs.Put.{PutAt}
 use Rattle.reporting.proofs.ReportLaws.{put_behind}
+use Rattle.reporting.proofs.LinesLaws.{nothing_put}
 use Rattle.blockers.specs.Blockers.{if_none, blockers_of}
 use Rattle.blockers.specs.Entry.{is_none}
 use Rattle.stranded.specs.Text.{shut_words, cause_words, nobody_line, name_of, by_whom, shut_line, carrier_text, or_nobody}
-
--- Nothing put.
-pub nothing_put : (old : List ℕ) (at : ℕ) → PutAt [] old at old at
-nothing_put old at = record { bytes = put_none old at; behind = omega arith }
-
--- A loop that puts lines of at most w bytes from a column on: before the first, its column, its length, one more, and after the last.
-module _ (line : ℕ → List ℕ) (w : ℕ) (short : (i : ℕ) → length (line i) ≤ w) (old : List ℕ) (at : ℕ) where
-  pub lines_start : PutAt (lines_of line 0) old at old at
-  unfolding lines_of
-  lines_start = nothing_put old at
-
-  module _ (k n : ℕ) (mid : List ℕ) (e : PutAt (lines_of line k) old at mid n) where
-    pub lines_low : n ≤ at + k * w
-    lines_low = omega (arith, e.behind, lines_within line w k short)
-
-    pub lines_keep : at + k * w ≤ length old → length mid ≡ length old
-    lines_keep l = ap length e.bytes ∙ put_length old _ at (omega (arith, lines_within line w k short))
-
-    pub lines_more : (next : ℕ) (new : List ℕ) → PutAt (line k) mid n new next → at + (k + 1) * w ≤ length old →
-        PutAt (lines_of line (k + 1)) old at new next
-    unfolding lines_of
-    lines_more next new p l = rw add-one (put_behind e p (omega (arith, p.behind, short k, lines_low)))
-
-    pub lines_end : (p : ℕ) → k ≤ p → p ≤ k → PutAt (lines_of line p) old at mid n
-    lines_end p a b =
-        let same : k ≡ p = omega arith in
-        rw same at e
 
 -- A carrier of a set, and one that is not in it.
 pub name_there : (set j : ℕ) (old new : List ℕ) (at n : ℕ) → digit set j ≡ true → PutAt (32 ∷ (49 + j) ∷ []) old at new n →

@@ -1,5 +1,5 @@
 -- `frames::put_beats` meets its contract: the beats passed stand behind the column.
-use Rattle.maps.proofs.LinesLaws.{lines_start, lines_low, lines_keep, lines_more, lines_end}
+use Rattle.reporting.proofs.LinesLaws.{lines_start, lines_low, lines_keep, lines_more, lines_end}
 use Rattle.floor.proofs.LimitsLaws.{check_tells}
 use Rattle.records.specs.Records.{answer_in}
 use Rattle.frames.proofs.FrameLaws.{next_short}

@@ -1,5 +1,5 @@
 -- `maps::put_cells` meets its contract: the marks of the cells passed stand in front.
-use Rattle.maps.proofs.LinesLaws.{lines_start, lines_low, lines_keep, lines_more, lines_end}
+use Rattle.reporting.proofs.LinesLaws.{lines_start, lines_low, lines_keep, lines_more, lines_end}
 use Prim.Native.Nat.{ℕ}
 use Rattle.maps.specs.Text.{marks_text}
 use Rattle.maps.proofs.LinesLaws.{byte_put}

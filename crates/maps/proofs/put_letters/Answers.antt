@@ -1,5 +1,5 @@
 -- `maps::put_letters` meets its contract: the lines of the cells passed stand behind the column.
-use Rattle.maps.proofs.LinesLaws.{lines_start, lines_low, lines_keep, lines_more, lines_end}
+use Rattle.reporting.proofs.LinesLaws.{lines_start, lines_low, lines_keep, lines_more, lines_end}
 use Rattle.maps.proofs.MapLaws.{letter_short}
 use native.Mathlib.Omega.{arith}
 use borrow.Author.Rules.{rules}

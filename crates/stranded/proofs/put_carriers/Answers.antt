@@ -1,7 +1,8 @@
 -- `stranded::put_carriers` meets its contract: the lines of the carriers passed stand in front.
 use native.Mathlib.Omega.{arith}
 use Rattle.floor.proofs.LimitsLaws.{check_tells}
-use Rattle.stranded.proofs.LineLaws.{lines_start, lines_low, lines_keep, lines_more, lines_end, carrier_short}
+use Rattle.reporting.proofs.LinesLaws.{lines_start, lines_low, lines_keep, lines_more, lines_end}
+use Rattle.stranded.proofs.LineLaws.{carrier_short}
 use borrow.Author.Rules.{rules}
 use Rattle.stranded.proofs.put_carriers.Goals as goal
 

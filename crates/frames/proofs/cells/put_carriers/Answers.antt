@@ -1,5 +1,5 @@
 -- `frames::cells::put_carriers` meets its contract: the carriers passed stand in front.
-use Rattle.maps.proofs.LinesLaws.{lines_start, lines_low, lines_keep, lines_more, lines_end}
+use Rattle.reporting.proofs.LinesLaws.{lines_start, lines_low, lines_keep, lines_more, lines_end}
 use Rattle.records.specs.Records.{answer_in}
 use Rattle.frames.specs.Text.{present_in}
 use Rattle.frames.proofs.CellLaws.{presents_short}

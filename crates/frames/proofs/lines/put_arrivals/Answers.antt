@@ -1,5 +1,5 @@
 -- `frames::lines::put_arrivals` meets its contract: the lines of the carriers passed stand behind the column.
-use Rattle.maps.proofs.LinesLaws.{lines_start, lines_low, lines_keep, lines_more, lines_end}
+use Rattle.reporting.proofs.LinesLaws.{lines_start, lines_low, lines_keep, lines_more, lines_end}
 use Rattle.records.specs.Records.{answer_in}
 use Rattle.frames.proofs.FrameLaws.{arrival_short}
 use native.Mathlib.Omega.{arith}

@@ -14,7 +14,7 @@ read_row-requires c =
     let l = c.loop-at.invariant in
     let long = rows_keeps _ _ _ _ c.requires.1 _ _ _ l.4 l.0 c.requires.3 in
     let less : c.loop-at.height < 32 = omega (arith, l.0, c.if-height-eq32.false) in
-    (c.requires.1, c.loop-at-test.true, omega (arith, l.1, long, c.requires.3))
+    (c.requires.1, omega (arith, l.1, long, c.requires.3))
 
 pub loop-at-smaller : goal.loop-at-smaller
 loop-at-smaller c = let n = next_within c.in_ok-at.ensures in omega (arith, n.0, n.1)

@@ -1,5 +1,5 @@
 -- `maps::marks::put_starts` meets its contract: the marks of the carriers passed stand behind the column.
-use Rattle.maps.proofs.LinesLaws.{lines_start, lines_low, lines_keep, lines_more, lines_end}
+use Rattle.reporting.proofs.LinesLaws.{lines_start, lines_low, lines_keep, lines_more, lines_end}
 use Rattle.maps.specs.Map.{start_marks}
 use Rattle.maps.proofs.MarkLaws.{start_short}
 use native.Mathlib.Omega.{arith}

@@ -1,5 +1,5 @@
 -- `maps::rows::put_grid` meets its contract: the rows passed stand behind the column.
-use Rattle.maps.proofs.LinesLaws.{lines_start, lines_low, lines_keep, lines_more, lines_end}
+use Rattle.reporting.proofs.LinesLaws.{lines_start, lines_low, lines_keep, lines_more, lines_end}
 use Rattle.maps.specs.Text.{row_of, grid_of}
 use Rattle.maps.proofs.MapLaws.{row_short, row_cells}
 use native.Mathlib.Omega.{arith}

@@ -1,6 +1,7 @@
 -- `stranded::lines::put_names` meets its contract: the carriers passed stand behind the column.
 use native.Mathlib.Omega.{arith}
-use Rattle.stranded.proofs.LineLaws.{lines_start, lines_low, lines_keep, lines_more, lines_end, name_short}
+use Rattle.reporting.proofs.LinesLaws.{lines_start, lines_low, lines_keep, lines_more, lines_end}
+use Rattle.stranded.proofs.LineLaws.{name_short}
 use borrow.Author.Rules.{rules}
 use Rattle.stranded.proofs.lines.put_names.Goals as goal
 
