@@ -86,12 +86,15 @@ impl Page {
         (self.edge(self.column_of(c)), self.edge(self.row_of(c)))
     }
 
-    pub fn middle_of(self, c: u16) -> (usize, usize) {
+    pub fn middle_of(self, c: u16) -> (usize, usize)
+        ensures { (result.0 ≤ 2621448) × (result.1 ≤ 2621448) }
+    {
         (self.middle(self.column_of(c)), self.middle(self.row_of(c)))
     }
 
     pub fn track_of(self, c: u16, carrier: usize) -> (usize, usize)
         requires { carrier ≤ 8 }
+        ensures { (result.0 ≤ 2621480) × (result.1 ≤ 2621480) }
     {
         (
             self.track(self.column_of(c), carrier),

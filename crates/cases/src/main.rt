@@ -19,7 +19,6 @@ mod trials;
 
 ghost use Rattle.std.specs.Prelude.{◌≡◌, length};
 
-use console::Input;
 use std::io;
 
 // Room for the script: twice a large buffer.
@@ -31,13 +30,13 @@ fn script_room() -> [u8; 131072]
 
 fn main(rt: HostRuntime) -> io::Result<()> {
     let mut space = script_room();
-    let input = console::read(
+    let read = console::read(
         &mut rt.stdin(),
         &mut rt.stderr(),
         b"cases: standard input",
         &mut space,
     );
-    let Input::Read(n) = input else {
+    let Ok(n) = read else {
         return Ok(());
     };
     play::play(&mut rt.stdout(), &space[..n])

@@ -1,10 +1,22 @@
 // What is looked at where an order has come to silence.
 use crate::calls;
-use commands::{answers, pairs, setup};
+use commands::answers::Answer;
+use commands::{pairs, setup};
 use std::io;
 use std::io::Write;
-use testkit::memory::both;
-use testkit::{memory, records, show};
+use testkit::memory::{plus, wide_at, zeros};
+use testkit::{records, show};
+
+// Where an order has come to.
+#[derive(Clone, Copy)]
+pub enum End {
+    // Silence, with the number of steps taken.
+    Silent(usize),
+    // A step that is not open while another one is: it is no order.
+    Cut,
+    // No silence, or an answer that is neither taken nor what the step waits for.
+    Odd,
+}
 
 // How many orders came to silence, and of how many each of the other things holds.
 #[derive(Clone, Copy)]
@@ -23,75 +35,82 @@ pub struct Tally {
     pub odd: usize,
 }
 
-// No order yet.
-pub fn nothing() -> Tally {
-    Tally {
-        orders: 0,
-        right: 0,
-        full: 0,
-        failing: 0,
-        steps: 0,
-        odd: 0,
-    }
-}
-
 // another planner: whether the second planner's answers are the records from a place on, each a stride behind the one before.
 pub fn second_says(setup: &[u16], m: &[u16], from: usize, stride: usize) -> bool {
-    let mut other = memory::zeros();
+    let mut other = zeros();
     oracle::second_plan(setup::floor_of(setup), setup::walls_of(setup), &mut other);
-    records::answers_are(m, from, stride, memory::wide_at(setup, 4), &other)
+    records::answers_are(m, from, stride, wide_at(setup, 4), &other)
 }
 
-// An order that came to silence with that number taken. What must be: the answers are both planners', no two of them in conflict, the taken
-// count in memory is the number of steps that were answered as taken, that number is at most the ceiling, and the state is at rest.
-fn judged(tally: Tally, setup: &[u16], m: &[u16], taken: usize) -> Tally {
-    let n = memory::wide_at(setup, 4);
-    let most = answers::number(calls::ceiling(n));
-    let mut planned = memory::zeros();
-    let failing = answers::number(calls::plan(setup, &mut planned));
-    let counted = both(records::taken_in(m) == taken, taken <= most);
-    let as_planned = both(
-        records::answers_are(m, 4, 67, n, &planned),
-        second_says(setup, m, 4, 67),
-    );
-    let free = pairs::are_free(setup, &planned);
-    let right = both(
-        both(as_planned, free),
-        both(counted, records::at_rest(m, n)),
-    );
-    Tally {
-        orders: memory::count(tally.orders, true),
-        right: memory::count(tally.right, right),
-        full: memory::count(tally.full, taken == most),
-        failing: memory::count(tally.failing, 0 < failing),
-        steps: memory::plus(tally.steps, taken),
-        odd: tally.odd,
+// One more where it holds, up to a million.
+fn counted(n: usize, holds: bool) -> usize {
+    if holds { n.saturating_add(1).min(1000000) } else { n }
+}
+
+impl Tally {
+    // No order yet.
+    pub fn new() -> Self {
+        Self {
+            orders: 0,
+            right: 0,
+            full: 0,
+            failing: 0,
+            steps: 0,
+            odd: 0,
+        }
     }
-}
 
-// One more order that is odd.
-pub fn odd(tally: Tally) -> Tally {
-    let mut counted = tally;
-    counted.odd = memory::count(tally.odd, true);
-    counted
-}
-
-// Where an order has come to: silent, with the number taken; ended, which is no order; spent, which is odd.
-pub fn noted(tally: Tally, setup: &[u16], m: &[u16], came: usize) -> Tally {
-    match answers::kind(came) {
-        answers::SILENT => judged(tally, setup, m, answers::number(came)),
-        answers::ENDED => tally,
-        _ => odd(tally),
+    // An order that came to silence with that number taken. What must be: the answers are both planners', no two of them in conflict, the
+    // taken count in memory is the number of steps that were answered as taken, that number is at most the ceiling, and the state is at rest.
+    fn silent(self, setup: &[u16], m: &[u16], taken: usize) -> Self {
+        let n = wide_at(setup, 4);
+        let most = machine::ceiling(n).unwrap_or(0);
+        let mut planned = zeros();
+        let failing = calls::is_failing(setup, &mut planned);
+        let right = records::answers_are(m, 4, 67, n, &planned)
+            && second_says(setup, m, 4, 67)
+            && pairs::are_free(setup, &planned)
+            && records::taken_in(m) == taken
+            && taken <= most
+            && records::at_rest(m, n);
+        Self {
+            orders: counted(self.orders, true),
+            right: counted(self.right, right),
+            full: counted(self.full, taken == most),
+            failing: counted(self.failing, failing),
+            steps: plus(self.steps, taken),
+            odd: self.odd,
+        }
     }
-}
 
-// The figures.
-pub fn say<W: Write>(out: &mut W, tally: Tally) -> io::Result<usize> {
-    show::number(out, tally.orders)?;
-    show::number(out, tally.right)?;
-    show::number(out, tally.full)?;
-    show::number(out, tally.failing)?;
-    show::number(out, tally.steps)?;
-    show::number(out, tally.odd)?;
-    Ok(answers::answer(answers::SHOWN, 0))
+    // One more order that is odd.
+    pub fn odd(self) -> Self {
+        let mut more = self;
+        more.odd = counted(self.odd, true);
+        more
+    }
+
+    // One more order.
+    pub fn noted(self, setup: &[u16], m: &[u16], end: End) -> Self {
+        match end {
+            End::Silent(taken) => self.silent(setup, m, taken),
+            End::Cut => self,
+            End::Odd => self.odd(),
+        }
+    }
+
+    // The figures.
+    pub fn say<W: Write>(self, out: &mut W) -> io::Result<Answer> {
+        for n in [
+            self.orders,
+            self.right,
+            self.full,
+            self.failing,
+            self.steps,
+            self.odd,
+        ] {
+            show::number(out, n)?;
+        }
+        Ok(Answer::Shown)
+    }
 }

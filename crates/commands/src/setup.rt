@@ -12,21 +12,15 @@ pub fn cleared() -> [u16; 1224]
     ensures { 1224 ≡ length result }
 {
     let mut setup = [0u16; 1224];
-    let mut i: usize = 140;
-    while i < 148 {
-        memory::put(&mut setup, i, 1);
-        i += 1;
-    }
+    setup[140..148].fill(1);
     setup
 }
 
 // The docks of all carriers.
 fn docks_of(setup: &[u16]) -> [u16; 32] {
     let mut docks = [0u16; 32];
-    let mut n: usize = 0;
-    while n < 32 {
-        memory::put(&mut docks, n, memory::at(setup, dock_place(n)));
-        n += 1;
+    for (n, dock) in docks.iter_mut().enumerate() {
+        *dock = memory::at(setup, dock_place(n));
     }
     docks
 }
@@ -55,9 +49,7 @@ pub fn walls_of(setup: &[u16]) -> &[u16] {
 // The walls that are lent become the cells 0, 1, 2 and so on.
 pub fn rising_walls(setup: &mut [u16], n: usize) {
     memory::put(setup, 200, memory::narrow(n));
-    let mut i: usize = 0;
-    while i < n {
+    for i in 0..n {
         memory::put(setup, memory::plus(201, i), memory::narrow(i));
-        i += 1;
     }
 }

@@ -1,50 +1,38 @@
 // Commands on sheets and floors. A text is a number of bytes of the script, from the line under the command's on.
-use crate::answers;
-use crate::answers::{PRINTED, WRITTEN, checked};
+use crate::answers::{Answer, answered, checked};
 use crate::setup::{floor_of, walls_of};
 use floor::Floor;
-use printing::Printed;
+use testkit::bytes;
 use testkit::fields::{field, under};
-use testkit::{bytes, memory};
+use testkit::memory::{buffer, front, same};
 
 // The sheet of a floor is written into n lent bytes: the answer, if these are then a text and otherwise as lent.
-fn written(f: Floor, walls: &[u16], n: usize, text: &[u8]) -> usize {
+fn written(f: Floor, walls: &[u16], n: usize, text: &[u8]) -> Answer {
     let mut page = bytes::page();
-    let came = checked(sheet::write(f, walls, bytes::front(&mut page, n)));
-    answers::only_if(bytes::holds(&page, text), came)
+    let came = checked(sheet::write(f, walls, front(&mut page, n)));
+    came.only_if(same(&page, text))
 }
 
-// What came of a reading that the check foretold: if it is refused, lent memory is as it was lent; if not, the floor that was read is
-// written again as the same bytes.
-fn read_so(text: &[u8], m: &[u16], f: Floor, asked: usize) -> usize {
-    if answers::is_refused(asked) {
-        return answers::only_if(memory::same(m, &memory::buffer()), asked);
-    }
-    answers::only_if(
-        written(f, m, 3000, text) == asked,
-        answers::answer(WRITTEN, 0),
-    )
-}
-
-// A sheet is checked, and read into lent memory, which must answer alike.
-fn read(text: &[u8], m: &mut [u16]) -> usize {
+// A sheet is checked, and read into lent memory, which must answer alike. If it is refused, lent memory is as it was lent; if not, the floor
+// that was read is written again as the same bytes.
+fn read(text: &[u8], m: &mut [u16]) -> Answer {
     let asked = checked(sheet::check(text, m.len()));
-    let reading = sheet::read(text, m);
-    let answer = reading.answer;
-    answers::only_if(
-        checked(answer) == asked,
-        read_so(text, m, reading.floor, asked),
-    )
+    match sheet::read(text, m) {
+        Err(r) => asked.only_if(asked == Answer::Refused(r) && same(m, &buffer())),
+        Ok(f) => {
+            Answer::Written.only_if(asked == Answer::Passed && written(f, m, 3000, text) == asked)
+        }
+    }
 }
 
 // text: a sheet of a number of bytes.
-pub fn text(bytes: &[u8], m: &mut [u16]) -> usize {
+pub fn text(bytes: &[u8], m: &mut [u16]) -> Answer {
     read(under(bytes, 0, field(bytes, 0)), m)
 }
 
 // Writing: the floor of the setup into lent bytes, whose number is the first of the line; they are then the text under
 // the line, whose length is the second.
-pub fn writing(text: &[u8], setup: &[u16]) -> usize {
+pub fn writing(text: &[u8], setup: &[u16]) -> Answer {
     written(
         floor_of(setup),
         walls_of(setup),
@@ -53,18 +41,13 @@ pub fn writing(text: &[u8], setup: &[u16]) -> usize {
     )
 }
 
-// What printing answered.
-fn printed_bytes(x: Printed) -> usize {
-    match x {
-        Printed::Written(n) => answers::answer(PRINTED, n),
-        Printed::Refused(r) => answers::refused(r),
-    }
-}
-
 // Printed: the line has the length of a sheet and of what is printed for it; both stand under it, one behind the other.
-pub fn printed(text: &[u8]) -> usize {
+pub fn printed(text: &[u8]) -> Answer {
     let n = field(text, 0);
     let mut page = bytes::page();
-    let came = printed_bytes(printing::routes(under(text, 0, n), &mut page));
-    answers::only_if(bytes::holds(&page, under(text, n, field(text, 1))), came)
+    let came = answered(
+        printing::routes(under(text, 0, n), &mut page),
+        |n| Answer::Printed(n),
+    );
+    came.only_if(same(&page, under(text, n, field(text, 1))))
 }

@@ -1,4 +1,3 @@
--- Laws of the arguments' numbers, of a trial's text, and of what is told of the input.
+-- Laws of the arguments' numbers, and of a trial's text.
 pub mod ArgumentLaws
 pub mod PlayedLaws
-pub mod ThroughLaws

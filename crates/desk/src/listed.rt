@@ -3,10 +3,9 @@
 ghost use Rattle.std.specs.Prelude.{◌+◌, ◌≤◌, ◌<◌, length};
 
 use crate::texts::DESK;
-use console::{Input, Output};
-use floor::{Checked, Floor, Refusal};
-use lister::{Counted, LINE, Listed};
-use printing::Printed;
+use console::Failed;
+use floor::{Floor, Refusal};
+use lister::{LINE, Listed};
 use reporting::put_bytes;
 use std::io::{IsTerminal, Read, Write};
 
@@ -19,15 +18,15 @@ const STEPS: usize = 11;
 // The most bytes of a line: a number of 20 digits, then a space and such a number for each step, and a newline.
 const TEXT: usize = 252;
 
-// Writes the first n bytes of a text to standard output; whether that succeeded.
-fn write_front<W: Write, E: Write>(writer: &mut W, errors: &mut E, text: &[u8], n: usize) -> bool {
-    match text.get(..n) {
-        Some(front) => matches!(
-            console::write(writer, errors, DESK.output, front),
-            Output::Written
-        ),
-        None => false,
-    }
+// Writes the first n bytes of a text to standard output.
+fn write_front<W: Write, E: Write>(
+    writer: &mut W,
+    errors: &mut E,
+    text: &[u8],
+    n: usize,
+) -> Result<(), Failed> {
+    let front = text.get(..n).ok_or(Failed)?;
+    console::write(writer, errors, DESK.output, front)
 }
 
 // Puts a number in decimal digits from a column on; the column behind it is returned.
@@ -71,24 +70,32 @@ fn put_run(out: &mut [u8], rank: u64, line: &[u16]) -> usize
 }
 
 // Prints the line of a refusal.
-fn print_refusal<W: Write, E: Write>(writer: &mut W, errors: &mut E, x: Refusal) {
+fn print_refusal<W: Write, E: Write>(
+    writer: &mut W,
+    errors: &mut E,
+    x: Refusal,
+) -> Result<(), Failed> {
     let mut out = [0u8; TEXT];
-    let printed = printing::print_refusal(x, &mut out);
-    let Printed::Written(n) = printed else {
-        return;
-    };
-    write_front(writer, errors, &out, n);
+    match printing::print_refusal(x, &mut out) {
+        Ok(n) => write_front(writer, errors, &out, n),
+        Err(_) => Ok(()),
+    }
 }
 
 // Prints the total.
-fn print_total<W: Write, E: Write>(writer: &mut W, errors: &mut E, n: u64) -> bool {
+fn print_total<W: Write, E: Write>(writer: &mut W, errors: &mut E, n: u64) -> Result<(), Failed> {
     let mut out = [0u8; TEXT];
     let k = put_total(&mut out, n);
     write_front(writer, errors, &out, k)
 }
 
 // Prints the run of a rank by its line.
-fn print_run<W: Write, E: Write>(writer: &mut W, errors: &mut E, rank: u64, line: &[u16]) -> bool
+fn print_run<W: Write, E: Write>(
+    writer: &mut W,
+    errors: &mut E,
+    rank: u64,
+    line: &[u16],
+) -> Result<(), Failed>
     requires { 23 ≤ length line.now }
 {
     let mut out = [0u8; TEXT];
@@ -103,21 +110,19 @@ fn progress<E: Write + IsTerminal>(errors: &mut E, printed: u64, total: u64) {
     }
 }
 
-// Prints lines, the first being that of a rank; whether that succeeded.
+// Prints lines, the first being that of a rank.
 fn print_lines<W: Write, E: Write>(
     writer: &mut W,
     errors: &mut E,
     first: u64,
     lines: &[u16],
-) -> bool
+) -> Result<(), Failed>
     requires { first ≤ 4294967296 }
 {
     for (i, line) in lines.chunks_exact(LINE).enumerate() {
-        if !print_run(writer, errors, first + i as u64, line) {
-            return false;
-        }
+        print_run(writer, errors, first + i as u64, line)?;
     }
-    true
+    Ok(())
 }
 
 // Prints all runs of a floor, which has that total, a window at a time.
@@ -127,24 +132,21 @@ fn print_all<W: Write, E: Write + IsTerminal>(
     f: Floor,
     walls: &[u16],
     total: u64,
-) {
+) -> Result<(), Failed> {
     if total > 4294967295 {
-        return;
+        return Ok(());
     }
-    if !print_total(writer, errors, total) {
-        return;
-    }
+    print_total(writer, errors, total)?;
     let mut first = 0;
     while first < total {
         let count = (total - first).min(LINES as u64);
         let mut lines = [0u16; LINES * LINE];
-        lister::runs_from(f, walls, first, &mut lines);
-        if !print_lines(writer, errors, first, &lines[..LINE * count as usize]) {
-            return;
-        }
+        let _ = lister::runs_from(f, walls, first, &mut lines);
+        print_lines(writer, errors, first, &lines[..LINE * count as usize])?;
         first += count;
         progress(errors, first, total);
     }
+    Ok(())
 }
 
 // Lists all runs of a floor.
@@ -153,10 +155,10 @@ fn list_all<W: Write, E: Write + IsTerminal>(
     errors: &mut E,
     f: Floor,
     walls: &[u16],
-) {
+) -> Result<(), Failed> {
     match lister::runs_from(f, walls, 0, &mut [0u16; 1]) {
-        Counted::Total(total) => print_all(writer, errors, f, walls, total),
-        Counted::Refused(x) => print_refusal(writer, errors, x),
+        Ok(total) => print_all(writer, errors, f, walls, total),
+        Err(x) => print_refusal(writer, errors, x),
     }
 }
 
@@ -164,17 +166,17 @@ fn list_all<W: Write, E: Write + IsTerminal>(
 fn print_one<W: Write, E: Write>(
     writer: &mut W,
     errors: &mut E,
-    total: u64,
+    listed: Listed,
     rank: u64,
-    steps: u16,
     report: &[u16],
-) -> bool
+) -> Result<(), Failed>
     requires { 22 ≤ length report.now }
 {
     let mut line = [0u16; LINE];
-    line[0] = steps;
+    line[0] = listed.steps;
     line[1..].copy_from_slice(&report[..LINE - 1]);
-    print_total(writer, errors, total) && print_run(writer, errors, rank, &line)
+    print_total(writer, errors, listed.total)?;
+    print_run(writer, errors, rank, &line)
 }
 
 // Lists the run of a rank of a floor.
@@ -184,13 +186,11 @@ fn list_one<W: Write, E: Write>(
     f: Floor,
     walls: &[u16],
     rank: u64,
-) {
+) -> Result<(), Failed> {
     let mut report = [0u16; 1004];
     match lister::run_of_rank(f, walls, rank, &mut report) {
-        Listed::Run { total, steps } => {
-            print_one(writer, errors, total, rank, steps, &report);
-        }
-        Listed::Refused(x) => print_refusal(writer, errors, x),
+        Ok(listed) => print_one(writer, errors, listed, rank, &report),
+        Err(x) => print_refusal(writer, errors, x),
     }
 }
 
@@ -200,16 +200,13 @@ fn list_text<W: Write, E: Write + IsTerminal>(
     errors: &mut E,
     text: &[u8],
     rank: Option<u64>,
-) {
+) -> Result<(), Failed> {
     let mut space = sheet::no_walls();
-    let reading = sheet::read(text, &mut space);
-    if let Checked::Refused(x) = reading.answer {
-        return print_refusal(writer, errors, x);
-    }
-    let f = reading.floor;
-    let Some(walls) = space.get(..usize::from(f.walls)) else {
-        return;
+    let f = match sheet::read(text, &mut space) {
+        Ok(f) => f,
+        Err(x) => return print_refusal(writer, errors, x),
     };
+    let walls = space.get(..usize::from(f.walls)).ok_or(Failed)?;
     match rank {
         Some(rank) => list_one(writer, errors, f, walls, rank),
         None => list_all(writer, errors, f, walls),
@@ -222,9 +219,8 @@ pub fn list_input<R: Read, W: Write, E: Write + IsTerminal>(
     writer: &mut W,
     errors: &mut E,
     rank: Option<u64>,
-) {
+) -> Result<(), Failed> {
     let mut space = io::large_buffer();
-    if let Input::Read(n) = console::read(reader, errors, DESK.input, &mut space) {
-        list_text(writer, errors, &space[..n], rank);
-    }
+    let n = console::read(reader, errors, DESK.input, &mut space)?;
+    list_text(writer, errors, &space[..n], rank)
 }

@@ -7,7 +7,6 @@ mod command;
 mod listed;
 mod played;
 mod texts;
-mod through;
 
 ghost use Rattle.std.specs.Prelude.{◌≡◌, min};
 
@@ -55,35 +54,26 @@ fn run(rt: &HostRuntime, command: Command) -> Option<()> {
     let reader = &mut rt.stdin();
     let writer = &mut rt.stdout();
     let errors = &mut rt.stderr();
-    match command {
+    // What failed is said.
+    let _ = match command {
         Command::Trial => {
             let (order, seed) = trial_arguments(rt, count)?;
-            texts::play(reader, writer, errors, order, seed);
+            texts::play(reader, writer, errors, order, seed)
         }
         Command::Runs => listed::list_input(reader, writer, errors, last_argument(rt, count)?),
         Command::Meeting => {
             let (i, j) = meeting_arguments(rt)?;
-            texts::meet(reader, writer, errors, i, j);
+            texts::meet(reader, writer, errors, i, j)
         }
-        Command::Blockers => {
-            texts::show_stranded(reader, writer, errors);
-        }
-        Command::Draw => {
-            match last_argument(rt, count)? {
-                Some(beat) => texts::draw_beat(reader, writer, errors, number_of(beat)),
-                None => texts::draw_all(reader, writer, errors),
-            };
-        }
-        Command::Sheet => {
-            texts::print_sheet(reader, writer, errors);
-        }
-        Command::Why => {
-            texts::explain(reader, writer, errors);
-        }
-        Command::Picture => {
-            texts::show_picture(reader, writer, errors);
-        }
-    }
+        Command::Blockers => texts::show_stranded(reader, writer, errors),
+        Command::Draw => match last_argument(rt, count)? {
+            Some(beat) => texts::draw_beat(reader, writer, errors, number_of(beat)),
+            None => texts::draw_all(reader, writer, errors),
+        },
+        Command::Sheet => texts::print_sheet(reader, writer, errors),
+        Command::Why => texts::explain(reader, writer, errors),
+        Command::Picture => texts::show_picture(reader, writer, errors),
+    };
     Some(())
 }
 

@@ -13,11 +13,10 @@ ghost use Rattle.map_reader.specs.Told.{SheetOrNothing};
 ghost use Rattle.desk.specs.Text.{trial_text};
 
 use crate::played;
-use crate::through::{Names, through};
-use console::Output;
+use console::{Failed, Names, through};
 use std::io::{Read, Write};
 
-// What the desk, its input and its output are called.
+// What the program, its input and its output are called.
 pub const DESK: Names<'static> = Names {
     program: b"desk",
     input: b"desk: standard input",
@@ -31,7 +30,7 @@ pub fn play<R: Read, W: Write, E: Write>(
     errors: &mut E,
     order: u16,
     seed: u32,
-) -> Output
+) -> Result<(), Failed>
     ensures { OnWritten result (IfSome (R.remaining reader.old)
         (λ xs. Appends (W.contents writer.old) (W.contents writer.new) (trial_text (take 65536 xs) order seed))) }
 {
@@ -50,7 +49,7 @@ pub fn meet<R: Read, W: Write, E: Write>(
     errors: &mut E,
     i: u16,
     j: u16,
-) -> Output
+) -> Result<(), Failed>
     ensures { OnWritten result (IfSome (R.remaining reader.old)
         (λ xs. Appends (W.contents writer.old) (W.contents writer.new) (meeting_text (take 65536 xs) i j))) }
 {
@@ -67,7 +66,7 @@ pub fn show_stranded<R: Read, W: Write, E: Write>(
     reader: &mut R,
     writer: &mut W,
     errors: &mut E,
-) -> Output
+) -> Result<(), Failed>
     ensures { OnWritten result (IfSome (R.remaining reader.old)
         (λ xs. Appends (W.contents writer.old) (W.contents writer.new) (blockers_text (take 65536 xs)))) }
 {
@@ -84,7 +83,7 @@ pub fn explain<R: Read, W: Write, E: Write>(
     reader: &mut R,
     writer: &mut W,
     errors: &mut E,
-) -> Output
+) -> Result<(), Failed>
     ensures { OnWritten result (IfSome (R.remaining reader.old)
         (λ xs. PutSome (W.contents writer.old) (W.contents writer.new)
         (λ out n. (k p : ℕ) → sheet_verdict (take 65536 xs) ≡ refused k p → Explains (take 65536 xs) k p out n))) }
@@ -102,7 +101,7 @@ pub fn show_picture<R: Read, W: Write, E: Write>(
     reader: &mut R,
     writer: &mut W,
     errors: &mut E,
-) -> Output {
+) -> Result<(), Failed> {
     let mut room = io::large_buffer();
     let out = &mut room;
     through(reader, writer, errors, DESK, move |text| {
@@ -116,7 +115,7 @@ pub fn draw_all<R: Read, W: Write, E: Write>(
     reader: &mut R,
     writer: &mut W,
     errors: &mut E,
-) -> Output
+) -> Result<(), Failed>
     ensures { OnWritten result (IfSome (R.remaining reader.old)
         (λ xs. Appends (W.contents writer.old) (W.contents writer.new) (draw_text (take 65536 xs)))) }
 {
@@ -134,7 +133,7 @@ pub fn draw_beat<R: Read, W: Write, E: Write>(
     writer: &mut W,
     errors: &mut E,
     t: u16,
-) -> Output
+) -> Result<(), Failed>
     ensures { OnWritten result (IfSome (R.remaining reader.old)
         (λ xs. Appends (W.contents writer.old) (W.contents writer.new) (beat_text (take 65536 xs) t))) }
 {
@@ -154,7 +153,7 @@ pub fn print_sheet<R: Read, W: Write, E: Write>(
     reader: &mut R,
     writer: &mut W,
     errors: &mut E,
-) -> Output
+) -> Result<(), Failed>
     ensures { OnWritten result (IfSome (R.remaining reader.old)
         (λ xs. PutSome (W.contents writer.old) (W.contents writer.new)
         (λ out n. SheetOrNothing (take 65536 xs) out n))) }

@@ -65,7 +65,7 @@ impl Floor {
 }
 
 // Why a request is refused: the rows of document 01's table of refusals, and of the change requests', each under its number.
-#[derive(Clone, Copy)]
+#[derive(Clone, Copy, Debug, PartialEq, Eq)]
 pub enum Reason {
     // The form of a sheet is wrong; the byte.
     Form = 1,
@@ -104,7 +104,7 @@ pub enum Reason {
 }
 
 // A refusal of document 01: its reason, and the place that the table of refusals gives with it.
-#[derive(Clone, Copy)]
+#[derive(Clone, Copy, Debug, PartialEq, Eq)]
 pub struct Refusal {
     pub reason: Reason,
     pub place: usize,

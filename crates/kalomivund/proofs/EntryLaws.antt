@@ -6,6 +6,9 @@ use mathlib.Core.List.{List}
 use lib.ListN.{length}
 use borrow.Author.Tests.{le-leb, lt-leb}
 use Rattle.laws.specs.Verdict.{Verdict, passed, refused, ◌then◌, demand, Outcome, refusal, ◌gives◌, ◌then_answers◌, when_passed}
+use Rattle.std.specs.Prelude.{Result, Ok, Err}
+use Rattle.floor.specs.declared.Refusal.{Refusal}
+use Rattle.floor.specs.Answers.{outcome_by}
 use Rattle.floor.specs.Checks.{long_enough}
 use Rattle.sheet.specs.Read.{read_verdict}
 use Rattle.abi.specs.Word.{Done, word_of, map_outcome}
@@ -21,27 +24,34 @@ pub stores_lent : {m new : List ℕ} (xs old : List ℕ) → 54 ≤ length xs �
 unfolding stored_for when_passed record_lent long_enough demand
 stores_lent xs old l e = rw (le-leb 54 (length xs) l) e
 
--- The word of an entry whose answer is packed, and the same for an entry on the floor that the numbers say.
-pub says_told : {A : Type 0} {w : ℕ} {told x : Outcome A} (φ : A → Done) → w ≡ word_of (map_outcome φ told) → told ≡ x
-    → w ≡ word_of (map_outcome φ x)
-says_told φ s e = rw e at s
+-- What an answer tells in a word, by way of what it says.
+tells_by : {X A : Type 0} (says : X → A) (tells : A → Done) (r : Result X Refusal)
+    → map_outcome tells (outcome_by says r) ≡ outcome_by (λ x. tells (says x)) r
+unfolding map_outcome outcome_by
+tells_by says tells (Ok x) = refl
+tells_by says tells (Err e) = refl
 
-pub says_packed : {A : Type 0} {w : ℕ} {told x : Outcome A} (φ : A → Done) (xs : List ℕ) → 54 ≤ length xs
-    → w ≡ word_of (map_outcome φ told) → told ≡ x → w ≡ word_for xs (map_outcome φ x)
-says_packed φ xs l s e = says_lent xs _ l (says_told φ s e)
+-- The word of an answer of the code, which says what the entry answers; and the same for an entry on the floor that the numbers say.
+pub says_told : {X A : Type 0} {w : ℕ} (says : X → A) (tells : A → Done) (r : Result X Refusal) {x : Outcome A}
+    → w ≡ word_of (outcome_by (λ a. tells (says a)) r) → outcome_by says r ≡ x → w ≡ word_of (map_outcome tells x)
+says_told says tells r h e = rw (← e, tells_by says tells r) h
+
+pub says_packed : {X A : Type 0} {w : ℕ} (says : X → A) (tells : A → Done) (r : Result X Refusal) (xs : List ℕ) {x : Outcome A}
+    → 54 ≤ length xs → w ≡ word_of (outcome_by (λ a. tells (says a)) r) → outcome_by says r ≡ x → w ≡ word_for xs (map_outcome tells x)
+says_packed says tells r xs l h e = says_lent xs _ l (says_told says tells r h e)
+
+-- The same of an answer of checks that is told as a word.
+pub says_checked : {A : Type 0} {w : ℕ} {told x : Outcome A} (tells : A → Done) (xs : List ℕ) → 54 ≤ length xs
+    → w ≡ word_of (map_outcome tells told) → told ≡ x → w ≡ word_for xs (map_outcome tells x)
+says_checked tells xs l h e = says_lent xs _ l (rw e at h)
 
 -- The answer of checks, with a number where they pass.
 pub told_checks : {A : Type 0} {x y : Verdict} {z z' : A} → x ≡ y → z ≡ z' → (x gives z) ≡ (y gives z')
 told_checks e d = rw (e, d)
 
--- The word of one case of an answer.
-pub says_case : {X A : Type 0} (φ : X → Outcome A) (ψ : A → Done) (w : ℕ) (x y : X) → x ≡ y → w ≡ word_of (map_outcome ψ (φ y))
-    → w ≡ word_of (map_outcome ψ (φ x))
-says_case φ ψ w x y e s = rw e s
-
 -- What is answered to a record of enough numbers, said over the floor that was read of it: the packer tells the word of what the entry
 -- answered, and the entry left the memory.
-pub ruleset packed_answers = (says_packed, told_checks, stores_lent)
+pub ruleset packed_answers = (says_packed, says_checked, told_checks, stores_lent)
 
 -- The word is the refusal's, 9, 0, and the memory is as it was.
 pub says_short : {w : ℕ} (xs : List ℕ) (x : Outcome Done) → length xs < 54 → w ≡ word_of (refusal 9 0) → w ≡ word_for xs x

@@ -21,7 +21,7 @@ use Rattle.sheet.specs.Read.{write_verdict, write_sheet}
 use Rattle.sheet.proofs.ListedLaws.{listed_length}
 use Rattle.sheet.proofs.FormLaws.{walls_length}
 use Rattle.sheet.proofs.Theorems.{theorems as sheet-theorems}
-use Rattle.search.specs.Answers.{cells_of}
+use Rattle.kalomivund.specs.Answers.{cells_of}
 use Rattle.search.proofs.Theorems.{theorems as search-theorems}
 use Rattle.planner.specs.Plan.{plan_verdict}
 use Rattle.planner.specs.Answers.{plan_result}

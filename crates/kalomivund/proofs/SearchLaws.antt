@@ -10,41 +10,40 @@ use Rattle.floor.specs.Checks.{check_of, long_enough}
 use Rattle.search.specs.Search.{search_of, request_of}
 use Rattle.floor.specs.declared.Refusal.{Refusal}
 use Rattle.route.specs.Route.{Answer}
-use Rattle.search.specs.declared.Found.{Found}
-use Rattle.search.specs.declared.Outcome.TheVariants.{Route, None, Refused}
-use Rattle.search.specs.Answers.{result_of, outcome_of, cells_of, Answers}
+use Rattle.std.specs.Prelude.{Option, Some, None, Result, Ok, Err, replicate}
+use Rattle.floor.specs.Answers.{number_of, outcome_by}
+use Rattle.search.specs.Answers.{result_of}
 use Rattle.abi.specs.Word.{word_of, done, map_outcome, of_number}
-use Rattle.kalomivund.specs.Answers.{of_search, answer_done, route_stored}
+use Rattle.kalomivund.specs.Answers.{of_search, answer_done, cells_of, route_stored}
 use Rattle.kalomivund.specs.Entries.{search_lent}
 use Rattle.kalomivund.proofs.EntryLaws.{says_lent, stores_lent}
 
-module _ {x : Found} {result : Outcome Answer} (s : Answers x result) where
+module _ {x : Result (Option (List ℕ)) Refusal} {result : Outcome Answer} (s : result_of x ≡ result) where
   -- None and a route: their case, and 64 cells in front.
-  pub none_says : {w : ℕ} → x.outcome ≡ None → w ≡ word_of (value (done 0 0)) → w ≡ word_of (of_search result)
-  unfolding of_search map_outcome answer_done result_of outcome_of
-  none_says e h = rw (← s.answers, e) h
+  pub none_says : {w : ℕ} → x ≡ Ok None → w ≡ word_of (value (done 0 0)) → w ≡ word_of (of_search result)
+  unfolding of_search map_outcome answer_done outcome_by
+  none_says e h = rw (← s, e) h
 
-  pub route_says : {w : ℕ} → x.outcome ≡ Route → w ≡ word_of (value (done 1 0)) → w ≡ word_of (of_search result)
-  unfolding of_search map_outcome answer_done result_of outcome_of
-  route_says e h = rw (← s.answers, e) h
+  pub route_says : {w : ℕ} (r : List ℕ) → x ≡ Ok (Some r) → w ≡ word_of (value (done 1 0)) → w ≡ word_of (of_search result)
+  unfolding of_search map_outcome answer_done outcome_by
+  route_says r e h = rw (← s, e) h
 
-  pub none_stores : {m : List ℕ} (old : List ℕ) → x.outcome ≡ None → m ≡ put old 0 x.route → m ≡ route_stored result old
-  unfolding route_stored result_of outcome_of
-  none_stores old e h = h ∙ rw (s.stores, ← s.answers, e) refl
+  pub none_stores : {m : List ℕ} (old : List ℕ) → x ≡ Ok None → m ≡ put old 0 (replicate 64 0) → m ≡ route_stored result old
+  unfolding route_stored cells_of outcome_by
+  none_stores old e h = rw (← s, e) h
 
-  pub route_stores : {m : List ℕ} (old : List ℕ) → x.outcome ≡ Route → m ≡ put old 0 x.route → m ≡ route_stored result old
-  unfolding route_stored result_of outcome_of cells_of
-  route_stores old e h = h ∙ rw (← s.answers, e) refl
+  pub route_stores : {m r : List ℕ} (old : List ℕ) → x ≡ Ok (Some r) → m ≡ put old 0 r → m ≡ route_stored result old
+  unfolding route_stored cells_of outcome_by
+  route_stores old e h = rw (← s, e) h
 
   -- A refusal: as met, and the memory as it was.
-  pub refused_says : {w : ℕ} {y : Refusal} → x.outcome ≡ Refused y → w ≡ word_of (refusal y.number y.place)
-      → w ≡ word_of (of_search result)
-  unfolding of_search map_outcome answer_done result_of outcome_of
-  refused_says e h = rw (← s.answers, e) h
+  pub refused_says : {w : ℕ} {y : Refusal} → x ≡ Err y → w ≡ word_of (refusal (number_of y.reason) y.place) → w ≡ word_of (of_search result)
+  unfolding of_search map_outcome outcome_by
+  refused_says e h = rw (← s, e) h
 
-  pub refused_stores : {y : Refusal} (old : List ℕ) → x.outcome ≡ Refused y → old ≡ route_stored result old
-  unfolding route_stored result_of outcome_of
-  refused_stores old e = rw (← s.answers, e) refl
+  pub refused_stores : {y : Refusal} (old : List ℕ) → x ≡ Err y → old ≡ route_stored result old
+  unfolding route_stored outcome_by
+  refused_stores old e = rw (← s, e) refl
 
 pub ruleset found_cases = (none_says, route_says, none_stores, route_stores, refused_says, refused_stores)
 

@@ -1,10 +1,9 @@
 -- What each answer of the library's entries tells as a word, its case and number, and what is stored with it.
-use Rattle.std.specs.Prelude.{ℕ, List, [], ◌∷◌}
+use Rattle.std.specs.Prelude.{ℕ, List, [], ◌∷◌, replicate}
 use Rattle.laws.specs.Verdict.{Outcome, value, refusal}
 use Rattle.laws.specs.Memory.{put}
 use Rattle.route.specs.Route.{Answer, none, route}
 use Rattle.route.specs.FirstConflict.{same_cell, change_of_places, following, ConflictAnswer, free, dated}
-use Rattle.search.specs.Answers.{cells_of}
 use Rattle.lengths.specs.declared.Lengths.{Lengths}
 use Rattle.reference.specs.Take.{StepAnswer, kept, sent, delivered}
 use Rattle.reference.specs.Ending.{RunEnding, silent, spent, ended}
@@ -21,9 +20,14 @@ answer_done (route r) = done 1 0
 unfoldable pub of_search : Outcome Answer → Outcome Done
 of_search x = map_outcome answer_done x
 
+-- The 64 numbers that a search stores: the route's cells, zeros where there is no route.
+unfoldable pub cells_of : Answer → List ℕ
+cells_of none = replicate 64 0
+cells_of (route r) = r
+
 -- The lent route memory after a search: 64 cells in front, zeros where there is none; as it was with a refusal.
 unfoldable pub route_stored : Outcome Answer → List ℕ → List ℕ
-route_stored (value x) old = put old 0 (cells_of (value x))
+route_stored (value x) old = put old 0 (cells_of x)
 route_stored (refusal k p) old = old
 
 -- The figures of the needed lengths in their order.

@@ -1,143 +1,126 @@
 // The answers of the library's entries as words.
 ghost use Rattle.std.specs.Prelude.{◌≡◌};
-ghost use Rattle.blockers.specs.Entry.{blocked_outcome};
-ghost use Rattle.conflict.specs.Entry.{compared_outcome};
-ghost use Rattle.planner.specs.Answers.{planned_outcome};
-ghost use Rattle.printing.specs.Print.{printed_outcome};
-ghost use Rattle.machine.specs.Answers.{stepped_reply, ran_reply};
-ghost use Rattle.machine.specs.Ceiling.{figure_of};
-ghost use Rattle.trial.specs.Entry.{tried_outcome};
-ghost use Rattle.lister.specs.Entry.{listed_outcome};
-ghost use Rattle.legality.specs.Entry.{legality_outcome, arrived_outcome};
-ghost use Rattle.abi.specs.Word.{word_of, of_number};
-ghost use Rattle.kalomivund.specs.Answers.{of_reply, of_rank, of_conflict, of_record};
+ghost use Rattle.floor.specs.Answers.{outcome_by};
+ghost use Rattle.abi.specs.Word.{Done, done, word_of};
+ghost use Rattle.kalomivund.specs.Told.{conflict_tells, listed_tells, plan_tells, record_tells, run_tells, step_tells};
 
-use abi::word::{done, refused};
-use blockers::Blocked;
-use conflict::Compared;
-use legality::{Arrived, Legality};
+use abi::word;
+use floor::Refusal;
+use legality::Record;
 use lister::Listed;
-use machine::{Most, Ran, Stepped};
-use planner::Planned;
-use printing::Printed;
-use trial::Tried;
+use machine::{Ending, Run};
+use route::Conflict;
+use steps::Taken;
 
-// The word of printing.
-pub fn of_print(x: Printed) -> u64
-    ensures { result ≡ word_of (of_number (printed_outcome x)) }
-{
-    match x {
-        Printed::Written(n) => done(0, n),
-        Printed::Refused(r) => refused(r),
+// What an answer tells in a word: a case and a number.
+pub trait Told {
+    ghost tells: { Self → Done };
+
+    // The case and the number.
+    fn told(self) -> (u16, usize)
+        ensures { done result.0 result.1 ≡ tells self };
+}
+
+// A number of steps, of bytes, or a carrier's arrival: case 0 with it.
+impl Told for usize {
+    ghost tells = { done 0 };
+
+    fn told(self) -> (u16, usize) {
+        (0, self)
     }
 }
 
-// The word of a plan.
-pub fn of_plan(x: Planned) -> u64
-    ensures { result ≡ word_of (of_number (planned_outcome x)) }
-{
-    match x {
-        Planned::Failing(i) => done(0, i),
-        Planned::Refused(r) => refused(r),
+impl Told for u16 {
+    ghost tells = { done 0 };
+
+    fn told(self) -> (u16, usize) {
+        (0, self as usize)
     }
 }
 
-// The word of a single step.
-pub fn of_step(x: Stepped) -> u64
-    ensures { result ≡ word_of (of_reply (stepped_reply x)) }
-{
-    match x {
-        Stepped::Kept => done(0, 0),
-        Stepped::Sent => done(1, 0),
-        Stepped::Delivered => done(2, 0),
-        Stepped::Refused(r) => refused(r),
+// The first carrier of a plan that has no route: case 0 with it, or with 0 where all have routes.
+impl Told for Option<usize> {
+    ghost tells = { plan_tells };
+
+    fn told(self) -> (u16, usize) {
+        (0, self.unwrap_or(0))
     }
 }
 
-// The word of a run.
-pub fn of_run(x: Ran) -> u64
-    ensures { result ≡ word_of (of_reply (ran_reply x)) }
-{
-    match x {
-        Ran::Silent(n) => done(0, n),
-        Ran::Spent(n) => done(1, n),
-        Ran::Ended(n) => done(2, n),
-        Ran::Refused(r) => refused(r),
+// A step: case 0 kept, 1 sent, 2 delivered.
+impl Told for Taken {
+    ghost tells = { step_tells };
+
+    fn told(self) -> (u16, usize) {
+        let case = match self {
+            Taken::Kept => 0,
+            Taken::Sent => 1,
+            Taken::Delivered => 2,
+        };
+        (case, 0)
     }
 }
 
-// The word of the ceiling.
-pub fn of_ceiling(x: Most) -> u64
-    ensures { result ≡ word_of (of_number (figure_of x)) }
-{
-    match x {
-        Most::Steps(n) => done(0, n),
-        Most::Refused(r) => refused(r),
+// A run: case 0 silent, 1 spent, 2 ended, with the number of steps taken.
+impl Told for Run {
+    ghost tells = { run_tells };
+
+    fn told(self) -> (u16, usize) {
+        let case = match self.ending {
+            Ending::Silent => 0,
+            Ending::Spent => 1,
+            Ending::Ended => 2,
+        };
+        (case, self.taken)
     }
 }
 
-// The word of a trial.
-pub fn of_trial(x: Tried) -> u64
-    ensures { result ≡ word_of (of_number (tried_outcome x)) }
-{
-    match x {
-        Tried::Steps(n) => done(0, n),
-        Tried::Refused(r) => refused(r),
+// The run of a rank: the case is how many steps it has, the number how many runs there are.
+impl Told for Listed {
+    ghost tells = { listed_tells };
+
+    fn told(self) -> (u16, usize) {
+        (self.steps, self.total as usize)
     }
 }
 
-// The word of the run of a rank.
-pub fn of_listed(x: Listed) -> u64
-    ensures { result ≡ word_of (of_rank (listed_outcome x)) }
-{
-    match x {
-        Listed::Run { total, steps } => done(steps, total as usize),
-        Listed::Refused(r) => refused(r),
+// The conflict test: case 0 free, 1 same cell, 2 change of places, 3 following, with the beat.
+impl Told for Option<Conflict> {
+    ghost tells = { conflict_tells };
+
+    fn told(self) -> (u16, usize) {
+        match self {
+            None => (0, 0),
+            Some(Conflict::SameCell(t)) => (1, t),
+            Some(Conflict::ChangeOfPlaces(t)) => (2, t),
+            Some(Conflict::Following(t)) => (3, t),
+        }
     }
 }
 
-// The word of the conflict test.
-pub fn of_conflict(x: Compared) -> u64
-    ensures { result ≡ word_of (of_conflict (compared_outcome x)) }
-{
-    match x {
-        Compared::Free => done(0, 0),
-        Compared::SameCell(t) => done(1, t),
-        Compared::ChangeOfPlaces(t) => done(2, t),
-        Compared::Following(t) => done(3, t),
-        Compared::Refused(r) => refused(r),
+// The check of a record: case 0 a route with its arrival, 1 none, 2 not heard, 3 to 8 the cause of what is wrong, with its beat.
+impl Told for Record {
+    ghost tells = { record_tells };
+
+    fn told(self) -> (u16, usize) {
+        match self {
+            Record::Route(a) => (0, a as usize),
+            Record::None => (1, 0),
+            Record::NotHeard => (2, 0),
+            Record::Wrong(x) => (x.cause.number(), x.beat),
+        }
     }
 }
 
-// The word of the check of a record.
-pub fn of_record(x: Legality) -> u64
-    ensures { result ≡ word_of (of_record (legality_outcome x)) }
+// The word of an answer that may be refused.
+pub fn word<T: Told>(x: Result<T, Refusal>) -> u64
+    ensures { result ≡ word_of (outcome_by T.tells x) }
 {
     match x {
-        Legality::Route(a) => done(0, a as usize),
-        Legality::None => done(1, 0),
-        Legality::NotHeard => done(2, 0),
-        Legality::Wrong(w) => done(w.cause, w.beat),
-        Legality::Refused(r) => refused(r),
-    }
-}
-
-// The word of an arrival.
-pub fn of_arrival(x: Arrived) -> u64
-    ensures { result ≡ word_of (of_number (arrived_outcome x)) }
-{
-    match x {
-        Arrived::At(a) => done(0, a as usize),
-        Arrived::Refused(r) => refused(r),
-    }
-}
-
-// The word of the carriers that shut one in.
-pub fn of_blocked(x: Blocked) -> u64
-    ensures { result ≡ word_of (of_number (blocked_outcome x)) }
-{
-    match x {
-        Blocked::Shut(set) => done(0, set as usize),
-        Blocked::Refused(r) => refused(r),
+        Ok(answer) => {
+            let (case, number) = answer.told();
+            word::done(case, number)
+        }
+        Err(r) => word::refused(r.number(), r.place),
     }
 }

@@ -23,16 +23,15 @@ ghost use Rattle.kalomivund.specs.Entries.{conflict_word, record_word, arrival_w
 ghost use Rattle.kalomivund.specs.Entries.{blockers_word, blockers_stored};
 
 use abi::{numbers, word};
-use floor::{Checked, Floor};
-use lengths::{Lengths, Needed};
-use search::Outcome;
+use floor::Floor;
+use lengths::Lengths;
 
 // The most steps for a number of carriers.
 #[unsafe(no_mangle)]
 pub extern "C" fn kalomivund_ceiling(carriers: u16) -> u64
     ensures { result ≡ ceiling_word carriers }
 {
-    answers::of_ceiling(machine::ceiling(carriers as usize))
+    answers::word(machine::ceiling(carriers as usize))
 }
 
 // Checks a floor and its walls.
@@ -56,14 +55,13 @@ pub extern "C" fn kalomivund_read_sheet(text: &[u8], f: &mut [u16], walls: &mut 
     if f.len() < 54 {
         return word::of_check_in_short(sheet::check(text, walls.len()));
     }
-    let reading = sheet::read(text, walls);
-    let checked = reading.answer;
-    let found = reading.floor;
-    let Checked::Passed = checked else {
-        return word::of_check(checked, 0);
-    };
-    numbers::store(f, found);
-    word::done(0, 0)
+    match sheet::read(text, walls) {
+        Ok(found) => {
+            numbers::store(f, found);
+            word::done(0, 0)
+        }
+        Err(r) => word::refused(r.number(), r.place),
+    }
 }
 
 // Writes the sheet of a floor into lent memory.
@@ -99,7 +97,7 @@ fn store_lengths(lengths: Lengths, out: &mut [u64]) -> u64
         lengths.figures as u64,
         lengths.report as u64,
     ];
-    numbers::copy_figures(out, &figures);
+    numbers::copy(out, 0, &figures);
     word::done(0, 0)
 }
 
@@ -112,10 +110,9 @@ pub extern "C" fn kalomivund_needed_lengths(f: &[u16], out: &mut [u64]) -> u64
     if f.len() < 54 {
         return word::too_short();
     }
-    let needed = lengths::needed_lengths(numbers::floor_of(f));
-    match needed {
-        Needed::Known(l) => store_lengths(l, out),
-        Needed::Refused(x) => word::refused(x),
+    match lengths::needed_lengths(numbers::floor_of(f)) {
+        Ok(lengths) => store_lengths(lengths, out),
+        Err(r) => word::refused(r.number(), r.place),
     }
 }
 
@@ -126,19 +123,16 @@ fn search_into(f: Floor, walls: &[u16], carrier: u16, views: &[u16], route: &mut
     ensures stores { route.new
         ≡ route_stored (search_of f walls.now carrier views.now) route.old }
 {
-    let found = search::search(f, walls, carrier, views);
-    let outcome = found.outcome;
-    let cells = found.route;
-    match outcome {
-        Outcome::None => {
-            numbers::copy(route, 0, &cells);
+    match search::search(f, walls, carrier, views) {
+        Ok(None) => {
+            numbers::copy(route, 0, &[0u16; 64]);
             word::done(0, 0)
         }
-        Outcome::Route => {
+        Ok(Some(cells)) => {
             numbers::copy(route, 0, &cells);
             word::done(1, 0)
         }
-        Outcome::Refused(x) => word::refused(x),
+        Err(r) => word::refused(r.number(), r.place),
     }
 }
 
@@ -175,7 +169,7 @@ pub extern "C" fn kalomivund_plan(f: &[u16], walls: &[u16], answers: &mut [u16])
     if f.len() < 54 {
         return word::too_short();
     }
-    answers::of_plan(planner::plan(numbers::floor_of(f), walls, answers))
+    answers::word(planner::plan(numbers::floor_of(f), walls, answers))
 }
 
 // From a sheet's bytes to its printed routes, or the line of its refusal, in lent memory.
@@ -184,7 +178,7 @@ pub extern "C" fn kalomivund_print_routes(text: &[u8], out: &mut [u8]) -> u64
     ensures says { result ≡ print_word text.now (length out.old) }
     ensures stores { out.new ≡ print_stored text.now out.old }
 {
-    answers::of_print(printing::routes(text, out))
+    answers::word(printing::routes(text, out))
 }
 
 // Puts the fresh state of a floor into lent memory.
@@ -208,7 +202,7 @@ pub extern "C" fn kalomivund_step(f: &[u16], walls: &[u16], state: &mut [u16], s
     if f.len() < 54 {
         return word::too_short();
     }
-    answers::of_step(machine::step(numbers::floor_of(f), walls, state, step))
+    answers::word(machine::step(numbers::floor_of(f), walls, state, step))
 }
 
 // Takes a run on a lent state: the open steps of a list in turn, as many as the budget allows.
@@ -227,7 +221,7 @@ pub extern "C" fn kalomivund_run(
     if f.len() < 54 {
         return word::too_short();
     }
-    answers::of_run(machine::run(numbers::floor_of(f), walls, state, steps, budget))
+    answers::word(machine::run(numbers::floor_of(f), walls, state, steps, budget))
 }
 
 // Plays a whole run of a floor from fresh to silent in one of three orders, every step taken reported with its answer.
@@ -250,7 +244,7 @@ pub extern "C" fn kalomivund_trial(
     if f.len() < 54 {
         return word::too_short();
     }
-    answers::of_trial(trial::trial(numbers::floor_of(f), walls, order, seed, state, report))
+    answers::word(trial::trial(numbers::floor_of(f), walls, order, seed, state, report))
 }
 
 // The complete run of a rank, from 0, of a floor of at most three carriers, and how many runs there are.
@@ -267,7 +261,7 @@ pub extern "C" fn kalomivund_run_of_rank(
     if f.len() < 54 {
         return word::too_short();
     }
-    answers::of_listed(lister::run_of_rank(numbers::floor_of(f), walls, rank, report))
+    answers::word(lister::run_of_rank(numbers::floor_of(f), walls, rank, report))
 }
 
 // The first conflict of two lent routes of 64 cells through a horizon: free, same cell, change of places or following, with
@@ -276,7 +270,7 @@ pub extern "C" fn kalomivund_run_of_rank(
 pub extern "C" fn kalomivund_conflict(r: &[u16], q: &[u16], horizon: u16) -> u64
     ensures { result ≡ conflict_word r.now q.now horizon }
 {
-    answers::of_conflict(conflict::conflict(r, q, horizon))
+    answers::word(conflict::conflict(r, q, horizon))
 }
 
 // Whether a record of 65 numbers is a route of a carrier of a floor, with its arrival; none, not heard, or what is wrong first.
@@ -292,7 +286,7 @@ pub extern "C" fn kalomivund_check_record(
     if f.len() < 54 {
         return word::too_short();
     }
-    answers::of_record(legality::check_record(numbers::floor_of(f), walls, carrier, told))
+    answers::word(legality::check_record(numbers::floor_of(f), walls, carrier, told))
 }
 
 // The arrival of a lent route of 64 cells through a horizon.
@@ -300,7 +294,7 @@ pub extern "C" fn kalomivund_check_record(
 pub extern "C" fn kalomivund_arrival(cells: &[u16], horizon: u16) -> u64
     ensures { result ≡ arrival_word cells.now horizon }
 {
-    answers::of_arrival(legality::arrival(cells, horizon))
+    answers::word(legality::arrival(cells, horizon))
 }
 
 // Who shuts a carrier in that has none in the sequential result: a bit a carrier above it, bit j − 1 being carrier j's; the sequential
@@ -319,5 +313,5 @@ pub extern "C" fn kalomivund_blockers(
     if f.len() < 54 {
         return word::too_short();
     }
-    answers::of_blocked(blockers::blockers(numbers::floor_of(f), walls, carrier, answers))
+    answers::word(blockers::blockers(numbers::floor_of(f), walls, carrier, answers))
 }

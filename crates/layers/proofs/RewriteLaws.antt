@@ -3,10 +3,12 @@ use Prim.Native.Nat.{ℕ, ◌+◌, ◌≤◌}
 use native.Mathlib.Omega.{arith}
 use mathlib.Core.List.{List}
 use mathlib.Core.Path.{◌≡◌, refl, ◌∙◌}
-use lib.ListN.{length, replicate, length-replicate}
+use lib.ListN.{length, take, drop, replicate, length-replicate, length-drop}
+use lib.Seq.{length-take-le}
+use borrow.Rule.Slice.PartMut.{put_mid}
 use Rattle.laws.proofs.Lists.{zeros_at}
 use Rattle.bitrows.specs.Rows.{written, filled}
-use Rattle.bitrows.proofs.FillLaws.{length_written, written_in, written_out, filled_in}
+use Rattle.bitrows.proofs.FillLaws.{length_written, written_in, written_out, written_copied, filled_in}
 use Rattle.layers.specs.Table.{Rewritten}
 
 -- The first n of some rows, made as φ says and written from row i on.
@@ -31,6 +33,13 @@ rewritten_zeros words after i fits h =
       inside = λ j l. written_in words i (replicate 32 0) 32 j fits l ∙ zeros_at 32 j;
       outside = λ j l. written_out words i (replicate 32 0) 32 j l;
     })
+
+-- Rows filled with zeros are empty rows written.
+pub zeros_filled : (words ys : List ℕ) (i k : ℕ) → i + 32 ≤ length words → k ≡ 32 →
+    ys ≡ replicate (length (take k (drop i words))) 0 → put_mid i k words ys ≡ written words i (replicate 32 0) 32
+zeros_filled words ys i k fits e h =
+    let size : length (take 32 (drop i words)) ≡ 32 = length-take-le 32 (drop i words) (omega (arith, length-drop i words)) in
+    written_copied words i (replicate 32 0) ys 32 k fits (omega arith) e (rw (e, size) at h)
 
 -- No row yet.
 pub rewritten_none : (words : List ℕ) (φ : ℕ → ℕ) (i : ℕ) → Rewritten words φ i 0 words

@@ -51,8 +51,7 @@ pub fn put_none(g: SearchGrid, sets: &mut [u32], t: usize)
     ensures only { ChangedAt g sets.old t sets.new }
     ensures none { Empty g sets.new t }
 {
-    let none = [0u32; ROWS];
-    bitrows::put_rows(sets, t * ROWS, &none, ROWS);
+    sets[t * ROWS..(t + 1) * ROWS].fill(0);
 }
 
 // Cell c joins the set of beat t.

@@ -8,7 +8,7 @@ ghost use Rattle.io.specs.Counts.{IsPrefixLen};
 
 use canvas::ground;
 use canvas::page::Page;
-use floor::{Checked, Floor};
+use floor::Floor;
 use records::TEAM;
 use traces::{beats, carriers};
 use wording::Text;
@@ -196,7 +196,7 @@ fn answers_of(f: Floor, walls: &[u16]) -> [u16; TEAM]
     ensures { 520 ≡ length result }
 {
     let mut m = records::blank();
-    planner::plan(f, walls, &mut m);
+    let _ = planner::plan(f, walls, &mut m);
     for i in 0..8 {
         m[65 * i + 1] = f.starts[i];
     }
@@ -229,10 +229,9 @@ pub fn print(text: &[u8], out: &mut [u8; TEXT_LENGTH]) -> usize
     ensures { IsPrefixLen result out.new }
 {
     let mut walls = sheet::no_walls();
-    let reading = sheet::read(text, &mut walls);
-    let n = match reading.answer {
-        Checked::Refused(x) => printing::put_refusal(x, out),
-        _ => put_read(reading.floor, &walls, out),
+    let n = match sheet::read(text, &mut walls) {
+        Ok(f) => put_read(f, &walls, out),
+        Err(x) => printing::put_refusal(x, out),
     };
     wording::within(n, out)
 }

@@ -3,6 +3,7 @@
 ghost use Rattle.std.specs.Prelude.{◌≤◌};
 
 use crate::sheet_line;
+use floor::{Reason, Refusal};
 
 // The column at which the line of an item begins.
 pub fn item_start(text: &[u8], item: usize) -> usize
@@ -43,19 +44,22 @@ fn outside_field(text: &[u8], start: usize) -> usize
         .unwrap_or(0)
 }
 
-// Whether two pairs of fields, each at a field of a line that begins at a column, are the same.
-pub fn same_pair(text: &[u8], a: usize, field: usize, b: usize, other: usize) -> bool
-    requires { (field ≤ 10) × (other ≤ 10) }
+// The pair at a field of the line that begins at a column: the column and the row of a cell.
+pub fn pair_at(text: &[u8], start: usize, field: usize) -> (usize, usize)
+    requires { field ≤ 10 }
 {
-    sheet_line::field_at(text, a, field) == sheet_line::field_at(text, b, other)
-        && sheet_line::field_at(text, a, field + 1) == sheet_line::field_at(text, b, other + 1)
+    (
+        sheet_line::field_at(text, start, field),
+        sheet_line::field_at(text, start, field + 1),
+    )
 }
 
 // Whether a pair is that of one of k walls, the first of which has its line at a column.
 fn is_wall(text: &[u8], start: usize, field: usize, base: usize, k: usize) -> bool
     requires { field ≤ 10 }
 {
-    (0..k).any(|j| same_pair(text, start, field, sheet_line::wall_start(base, j), 0))
+    let pair = pair_at(text, start, field);
+    (0..k).any(|j| pair_at(text, sheet_line::wall_start(base, j), 0) == pair)
 }
 
 // The first field of the first pair of a line that is a wall.
@@ -74,7 +78,8 @@ fn wall_field(text: &[u8], start: usize) -> usize
 fn is_repeated(text: &[u8], start: usize, k: usize) -> bool
     requires { k ≤ 4 }
 {
-    (1..k).any(|pair| same_pair(text, start, pair_field(k), start, pair_field(pair)))
+    let dock = pair_at(text, start, pair_field(k));
+    (1..k).any(|pair| pair_at(text, start, pair_field(pair)) == dock)
 }
 
 // The first field of the first dock of a line that stands before in its list.
@@ -90,27 +95,24 @@ fn repeated_field(text: &[u8], start: usize) -> usize
 }
 
 // The field of an item's line that is the cause of a refusal.
-pub fn cause(text: &[u8], number: u16, item: usize) -> usize
-    requires { item ≤ 99999 }
+pub fn cause(text: &[u8], x: Refusal) -> usize
+    requires { x.place ≤ 99999 }
     ensures { result ≤ 10 }
 {
-    let start = item_start(text, item);
-    if number == 3 {
-        return outside_field(text, start);
+    let start = item_start(text, x.place);
+    match x.reason {
+        Reason::OutsideGrid => outside_field(text, start),
+        Reason::OnWall => wall_field(text, start),
+        Reason::RepeatedDock => repeated_field(text, start),
+        _ => 0,
     }
-    if number == 5 {
-        return wall_field(text, start);
-    }
-    if number == 17 {
-        return repeated_field(text, start);
-    }
-    0
 }
 
 // The carrier with the start of an item's line.
 pub fn sharer(text: &[u8], start: usize) -> usize {
     let n = sheet_line::carriers(text);
+    let cell = pair_at(text, start, 0);
     (1..n)
-        .find(|i| same_pair(text, start, 0, item_start(text, *i), 0))
+        .find(|i| pair_at(text, item_start(text, *i), 0) == cell)
         .unwrap_or(n)
 }

@@ -1,9 +1,11 @@
 // Lines and columns of a text, counted from 1, and the position of a refusal in words.
 ghost use Rattle.std.specs.Prelude.{◌≡◌, suc, ◌+◌, ◌-◌, ◌*◌, ◌≤◌, length, get_or};
+ghost use Rattle.floor.specs.Answers.{number_of};
 ghost use Rattle.reporting.specs.Put.{PutAt};
 ghost use Rattle.positions.specs.Position.{line_of_refusal, column_of_refusal, position_text};
 ghost use Rattle.positions.specs.Inner.{Follows, StandsIn};
 
+use floor::{Reason, Refusal};
 use reporting::put_bytes;
 
 // A byte of a text; 0 past its end.
@@ -50,17 +52,16 @@ pub fn position_at(text: &[u8], at: usize) -> LineColumn
 }
 
 // The line of a refusal.
-pub fn line_of(text: &[u8], number: u16, place: usize) -> usize
-    requires { place ≤ 65535 }
-    ensures { (result ≡ line_of_refusal text.now number place) × (result ≤ 65536) }
+#[tactic(auto, using(crate::proofs::PositionLaws::line_of_item), unfolding(crate::specs::Position::line_of_refusal))]
+pub fn line_of(text: &[u8], x: Refusal) -> usize
+    requires { x.place ≤ 65535 }
+    ensures { (result ≡ line_of_refusal text.now (number_of x.reason) x.place) × (result ≤ 65536) }
 {
-    if number == 1 {
-        return position_at(text, place).line;
+    match x.reason {
+        Reason::Form => position_at(text, x.place).line,
+        Reason::Limits => 1,
+        _ => x.place + 1,
     }
-    if number == 2 {
-        return 1;
-    }
-    place + 1
 }
 
 // The first column of a field of line 1, counted from 1.
@@ -72,23 +73,17 @@ fn field_column(field: usize) -> usize
 }
 
 // The column of a refusal; of 3, 5 and 17 that of the field of the item's line that is the cause.
-pub fn column_of(text: &[u8], number: u16, place: usize, field: usize) -> usize
-    requires { (place ≤ 65535) × (field ≤ 10) }
-    ensures { (result ≡ column_of_refusal text.now number place field) × (result ≤ 400000) }
+#[tactic(auto, using(crate::proofs::PositionLaws::column_of_item), unfolding(crate::specs::Position::column_of_refusal))]
+pub fn column_of(text: &[u8], x: Refusal, field: usize) -> usize
+    requires { (x.place ≤ 65535) × (field ≤ 10) }
+    ensures { (result ≡ column_of_refusal text.now (number_of x.reason) x.place field) × (result ≤ 400000) }
 {
-    if number == 1 {
-        return position_at(text, place).column;
+    match x.reason {
+        Reason::Form => position_at(text, x.place).column,
+        Reason::Limits => field_column(x.place),
+        Reason::WallOrder | Reason::SharedStart => 1,
+        _ => 5 * field + 1,
     }
-    if number == 2 {
-        return field_column(place);
-    }
-    if number == 4 {
-        return 1;
-    }
-    if number == 6 {
-        return 1;
-    }
-    5 * field + 1
 }
 
 // Puts the words of a position in front of a memory; their length is returned.

@@ -9,9 +9,10 @@ ghost use Rattle.io.specs.Counts.{IsPrefixLen};
 ghost use Rattle.positions.specs.Position.{line_of_refusal, column_of_refusal, position_text};
 ghost use Rattle.reasons.specs.Told.{BeginsWith, Explains};
 ghost use Rattle.laws.specs.Verdict.{refused};
+ghost use Rattle.floor.specs.Answers.{number_of};
 ghost use Rattle.sheet.specs.Read.{sheet_verdict};
 
-use floor::{Checked, Floor, Refusal};
+use floor::{Floor, Reason, Refusal};
 use positions::{cause, position, sheet_line};
 use reporting::put_bytes;
 use wording::Text;
@@ -57,42 +58,42 @@ fn put_limit(text: &[u8], field: usize, out: &mut Text<'_>) {
 }
 
 // Puts the cause of a refusal, a field of an item's line where there is one.
-fn put_cause(text: &[u8], number: u16, place: usize, field: usize, out: &mut Text<'_>)
-    requires { (place ≤ 65535) × (field ≤ 10) }
+fn put_cause(text: &[u8], x: Refusal, field: usize, out: &mut Text<'_>)
+    requires { (x.place ≤ 65535) × (field ≤ 10) }
 {
-    match number {
-        1 => malformed::put_reason(text, place, out),
-        2 => put_limit(text, place, out),
-        3 => item::put_outside(text, place, field, out),
-        4 => item::put_order(text, place, out),
-        5 => item::put_on_wall(text, place, field, out),
-        6 => item::put_shared(text, place, out),
-        _ => item::put_twice(text, place, field, out),
+    match x.reason {
+        Reason::Form => malformed::put_reason(text, x.place, out),
+        Reason::Limits => put_limit(text, x.place, out),
+        Reason::OutsideGrid => item::put_outside(text, x.place, field, out),
+        Reason::WallOrder => item::put_order(text, x.place, out),
+        Reason::OnWall => item::put_on_wall(text, x.place, field, out),
+        Reason::SharedStart => item::put_shared(text, x.place, out),
+        _ => item::put_twice(text, x.place, field, out),
     }
 }
 
 // Puts the reason of a refusal and a newline in front of a memory; the length of both is returned.
-fn put_reason(text: &[u8], number: u16, place: usize, field: usize, memory: &mut [u8]) -> usize
-    requires { (place ≤ 65535) × (field ≤ 10) }
+fn put_reason(text: &[u8], x: Refusal, field: usize, memory: &mut [u8]) -> usize
+    requires { (x.place ≤ 65535) × (field ≤ 10) }
     ensures { IsPrefixLen result memory.new }
 {
     let mut out = Text::new(memory);
-    put_cause(text, number, place, field, &mut out);
+    put_cause(text, x, field, &mut out);
     out.put(b"\n");
-    let end = out.at;
-    wording::within(end, memory)
+    let n = out.at;
+    wording::within(n, memory)
 }
 
 // Puts the position of a refusal and its reason in front of a memory; the length of both is returned.
-fn put_refused(text: &[u8], number: u16, place: usize, field: usize, out: &mut [u8]) -> usize
-    requires { (place ≤ 65535) × (field ≤ 10) × (160 ≤ length out.old) }
-    ensures { BeginsWith (position_text (line_of_refusal text.now number place)
-        (column_of_refusal text.now number place field)) out.new result }
+fn put_refused(text: &[u8], x: Refusal, field: usize, out: &mut [u8]) -> usize
+    requires { (x.place ≤ 65535) × (field ≤ 10) × (160 ≤ length out.old) }
+    ensures { BeginsWith (position_text (line_of_refusal text.now (number_of x.reason) x.place)
+        (column_of_refusal text.now (number_of x.reason) x.place field)) out.new result }
 {
     let mut reason = [0u8; REASON_LENGTH];
-    let n = put_reason(text, number, place, field, &mut reason);
-    let line = position::line_of(text, number, place);
-    let column = position::column_of(text, number, place, field);
+    let n = put_reason(text, x, field, &mut reason);
+    let line = position::line_of(text, x);
+    let column = position::column_of(text, x, field);
     let at = position::put_position(line, column, out);
     put_bytes(out, at, &reason[..n])
 }
@@ -100,14 +101,16 @@ fn put_refused(text: &[u8], number: u16, place: usize, field: usize, out: &mut [
 // The docks of all carriers of a floor.
 fn docks(f: Floor) -> usize {
     let mut sum: usize = 0;
-    for i in 0..(f.carriers as usize).min(8) {
-        sum += f.counts[i] as usize;
+    for &count in f.counts.iter().take(f.carriers as usize) {
+        sum += count as usize;
     }
     sum
 }
 
 // Puts the size of a floor in front of a memory; its length is returned.
-fn put_accepted(f: Floor, memory: &mut [u8]) -> usize {
+fn put_accepted(f: Floor, memory: &mut [u8]) -> usize
+    ensures { IsPrefixLen result memory.new }
+{
     let mut out = Text::new(memory);
     out.fill(
         b"accepted: % by % cells, horizon %, depth %",
@@ -121,7 +124,8 @@ fn put_accepted(f: Floor, memory: &mut [u8]) -> usize {
     out.put_count(f.carriers as usize, b", 1 carrier", b", % carriers");
     out.put_count(docks(f), b" with 1 dock", b" with % docks");
     out.put_count(f.walls as usize, b", 1 wall\n", b", % walls\n");
-    out.at
+    let n = out.at;
+    wording::within(n, memory)
 }
 
 // Puts where a sheet ends early in front of a memory; the length of the text is returned.
@@ -138,15 +142,12 @@ fn put_end(text: &[u8], end: usize, memory: &mut [u8]) -> usize
 // Puts the text of a refusal in front of a memory; its length is returned.
 fn put_text(text: &[u8], x: Refusal, out: &mut [u8]) -> usize
     requires { (x.place ≤ 65535) × (160 ≤ length out.old) }
-    ensures { Explains text.now x.number x.place out.new result }
+    ensures { Explains text.now (number_of x.reason) x.place out.new result }
 {
-    let number = x.number;
-    let place = x.place;
-    if number == 1 && place == text.len() {
-        return put_end(text, place, out);
+    match x.reason {
+        Reason::Form if x.place == text.len() => put_end(text, x.place, out),
+        _ => put_refused(text, x, cause::cause(text, x), out),
     }
-    let field = cause::cause(text, number, place);
-    put_refused(text, number, place, field, out)
 }
 
 // Prints why a text is no sheet of a floor, or the size of its floor where it is one; the number of printed bytes is returned.
@@ -156,12 +157,8 @@ pub fn print(text: &[u8], out: &mut [u8; TEXT_LENGTH]) -> usize
         → Explains text.now k p out.new result }
 {
     let mut walls = sheet::no_walls();
-    let reading = sheet::read(text, &mut walls);
-    let checked = reading.answer;
-    let f = reading.floor;
-    let Checked::Refused(x) = checked else {
-        let n = put_accepted(f, out);
-        return wording::within(n, out);
-    };
-    put_text(text, x, out)
+    match sheet::read(text, &mut walls) {
+        Ok(f) => put_accepted(f, out),
+        Err(x) => put_text(text, x, out),
+    }
 }

@@ -13,12 +13,19 @@ ghost use Rattle.sheet.specs.Read.{sheet_verdict};
 ghost use Rattle.printing.specs.Print.{or_refusal};
 ghost use Rattle.printing.specs.Put.{TextPut};
 
-use console::{Input, Output};
-use floor::{Checked, Floor};
+use console::{Failed, Names};
+use floor::Floor;
 use std::io::{Read, Write};
 
 // The length of the longest sheet: 31 bytes, 56 for each of eight carriers of four docks, 11 for each of 1,023 walls.
 const SHEET_LENGTH: usize = 11732;
+
+// What the program, its input and its output are called.
+const RESHEET: Names<'static> = Names {
+    program: b"resheet",
+    input: b"resheet: standard input",
+    output: b"resheet: standard output",
+};
 
 // Puts the sheet of a floor that was read, with its walls in front of `walls`; its length is returned.
 fn put_sheet(f: Floor, walls: &[u16], out: &mut [u8]) -> usize
@@ -28,7 +35,7 @@ fn put_sheet(f: Floor, walls: &[u16], out: &mut [u8]) -> usize
     ensures { TextPut (sheet_of f (take f.walls walls.now)) out.old out.new result }
 {
     let k = f.walls as usize;
-    sheet::write(f, &walls[..k], out);
+    let _ = sheet::write(f, &walls[..k], out);
     sheet::sheet_length(f)
 }
 
@@ -38,32 +45,31 @@ fn print(text: &[u8], out: &mut [u8; SHEET_LENGTH]) -> usize
     ensures prints { take result out.new ≡ or_refusal (sheet_verdict text.now) text.now }
 {
     let mut walls = sheet::no_walls();
-    let reading = sheet::read(text, &mut walls);
-    let checked = reading.answer;
-    let f = reading.floor;
-    let Checked::Refused(x) = checked else {
-        return put_sheet(f, &walls, out);
-    };
-    printing::put_refusal(x, out)
+    match sheet::read(text, &mut walls) {
+        Ok(f) => put_sheet(f, &walls, out),
+        Err(x) => printing::put_refusal(x, out),
+    }
 }
 
 // Writes the sheet that the input has again, or the line of its refusal; a failure of input or output is said. The longest sheet has
 // 11,732 bytes; of a longer input the first 65,536 bytes hold the first extra byte.
-fn run<R: Read, W: Write, E: Write>(reader: &mut R, writer: &mut W, errors: &mut E) -> Output
+fn run<R: Read, W: Write, E: Write>(
+    reader: &mut R,
+    writer: &mut W,
+    errors: &mut E,
+) -> Result<(), Failed>
     ensures { OnWritten result (IfSome (R.remaining reader.old)
         (λ xs. Appends (W.contents writer.old) (W.contents writer.new)
         (let text = take 65536 xs in or_refusal (sheet_verdict text) text))) }
 {
-    let mut space = io::large_buffer();
-    let input = console::read(reader, errors, b"resheet: standard input", &mut space);
-    let Input::Read(n) = input else {
-        return Output::Failed;
-    };
-    let mut out = [0u8; SHEET_LENGTH];
-    let printed = print(&space[..n], &mut out);
-    console::write(writer, errors, b"resheet: standard output", &out[..printed])
+    let mut room = [0u8; SHEET_LENGTH];
+    let out = &mut room;
+    console::through(reader, writer, errors, RESHEET, move |text| {
+        let n = print(text, out);
+        Ok(&out[..n])
+    })
 }
 
 fn main(rt: HostRuntime) {
-    run(&mut rt.stdin(), &mut rt.stdout(), &mut rt.stderr());
+    let _ = run(&mut rt.stdin(), &mut rt.stdout(), &mut rt.stderr());
 }

@@ -17,7 +17,7 @@ fn last_beat(horizon: u16) -> usize
 }
 
 // A conflict of two routes, with its beat.
-#[derive(Clone, Copy)]
+#[derive(Clone, Copy, Debug, PartialEq, Eq)]
 pub enum Conflict {
     // Both are in one cell at this beat.
     SameCell(usize),

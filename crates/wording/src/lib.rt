@@ -6,6 +6,7 @@ ghost use Rattle.std.specs.Prelude.{◌≡◌, ◌+◌, ◌%◌, ◌≤◌, ◌<
 ghost use Rattle.io.specs.Counts.{IsPrefixLen};
 ghost use Rattle.reporting.specs.Put.{PutAt};
 ghost use Rattle.wording.specs.Decimal.{decimal, five_digits, first_digit};
+ghost use Rattle.wording.specs.Puts.{PutIfRoom};
 
 use reporting::put_bytes;
 
@@ -45,6 +46,7 @@ fn first_digit(n: u32) -> usize
 }
 
 // Puts a number below 100,000 in decimal digits; the column behind it is returned.
+// Kept with its column: it is the function of claim K6 (docs/CLAIMS.md), and its contract tells the bytes of the memory.
 pub fn put_decimal(out: &mut [u8], at: usize, n: u32) -> usize
     requires { at + 5 ≤ length out.old }
     ensures { PutAt (decimal n) out.old at out.new result }
@@ -70,12 +72,18 @@ pub struct Text<'a> {
 
 impl<'a> Text<'a> {
     // An empty text, in front of a memory.
-    pub fn new(bytes: &'a mut [u8]) -> Text<'a> {
+    pub fn new(bytes: &'a mut [u8]) -> Text<'a>
+        ensures same_memory { result.bytes.ghost_name ≡ bytes.entry.ghost_name }
+        ensures empty { (result.at ≡ 0) × (result.bytes.now ≡ bytes.old) }
+    {
         Text { bytes, at: 0 }
     }
 
     // Puts bytes, if they fit.
-    pub fn put(&mut self, bytes: &[u8]) {
+    pub fn put(&mut self, bytes: &[u8])
+        ensures same_memory { self.new.bytes.ghost_name ≡ self.old.bytes.ghost_name }
+        ensures puts { PutIfRoom (length bytes.now) bytes.now self.old.bytes.now self.old.at self.new.bytes.now self.new.at }
+    {
         let length = self.bytes.len();
         if self.at <= length && bytes.len() <= length - self.at {
             self.at = put_bytes(self.bytes, self.at, bytes);
@@ -83,7 +91,11 @@ impl<'a> Text<'a> {
     }
 
     // Puts a number, if it has at most five digits and there is room for five.
-    pub fn put_number(&mut self, n: usize) {
+    pub fn put_number(&mut self, n: usize)
+        ensures same_memory { self.new.bytes.ghost_name ≡ self.old.bytes.ghost_name }
+        ensures puts { n < 100000 → PutIfRoom 5 (decimal n) self.old.bytes.now self.old.at self.new.bytes.now self.new.at }
+        ensures leaves { 100000 ≤ n → (self.new.bytes.now ≡ self.old.bytes.now) × (self.new.at ≡ self.old.at) }
+    {
         let length = self.bytes.len();
         if n <= 99999 && 5 <= length && self.at <= length - 5 {
             self.at = put_decimal(self.bytes, self.at, n as u32);
@@ -91,7 +103,9 @@ impl<'a> Text<'a> {
     }
 
     // Puts a pattern, of which 4,096 bytes at most are read, with numbers in the places of its `%`, and 0 where there are no more numbers.
-    pub fn fill(&mut self, pattern: &[u8], numbers: &[usize]) {
+    pub fn fill(&mut self, pattern: &[u8], numbers: &[usize])
+        ensures same_memory { self.new.bytes.ghost_name ≡ self.old.bytes.ghost_name }
+    {
         let mut left = numbers.iter();
         for &byte in pattern.iter().take(4096) {
             if byte == b'%' {
@@ -103,7 +117,10 @@ impl<'a> Text<'a> {
     }
 
     // Puts how many things there are, by a sentence for one and a pattern for several.
-    pub fn put_count(&mut self, n: usize, one: &[u8], several: &[u8]) {
+    pub fn put_count(&mut self, n: usize, one: &[u8], several: &[u8])
+        ensures same_memory { self.new.bytes.ghost_name ≡ self.old.bytes.ghost_name }
+        ensures one { n ≡ 1 → PutIfRoom (length one.now) one.now self.old.bytes.now self.old.at self.new.bytes.now self.new.at }
+    {
         if n == 1 {
             self.put(one);
         } else {

@@ -8,10 +8,12 @@ pub returns-then-f-lt54 : goal.returns-then-f-lt54
 unfolding needed_word needed_stored
 returns-then-f-lt54 c = search too_short
 
-pub returns-in-Known : goal.returns-in-Known
+pub returns-in-Ok : goal.returns-in-Ok
 unfolding needed_word needed_stored
-returns-in-Known c = rw (← c.floor_of.ensures) (search lengths_lent)
+returns-in-Ok c = rw (← c.floor_of.ensures) (search lengths_lent)
 
-pub returns-in-Refused : goal.returns-in-Refused
+pub returns-in-Err : goal.returns-in-Err
 unfolding needed_word needed_stored
-returns-in-Refused c = rw (← c.floor_of.ensures) (search lengths_lent)
+returns-in-Err c =
+    let word = rw c.number.ensures at c.refused.ensures in
+    rw (← c.floor_of.ensures) (search lengths_lent)

@@ -1,11 +1,14 @@
 -- `kalomivund_read_sheet` meets its contract: a refusal leaves all as it was; otherwise the floor's numbers and its walls are stored.
-use Rattle.laws.proofs.VerdictLaws.{when_passed_lem, when_refused, gives_passed}
+use Rattle.laws.proofs.VerdictLaws.{when_passed_lem, when_refused, gives_passed, gives_refused}
 use Rattle.kalomivund.proofs.EntryLaws.{short_keeps, read_short, read_long}
 use Rattle.sheet.specs.Read.{read_floor, read_walls}
-use Rattle.floor.proofs.AnswersLaws.{passes, refuses}
+use Rattle.floor.specs.declared.Floor.{Floor}
+use Rattle.floor.proofs.AnswersLaws.{met_passed, refuses}
+use Rattle.fields.proofs.ReachedLaws.{said_value, said_refusal}
 use Rattle.abi.specs.Word.{of_number, map_outcome}
 use Rattle.kalomivund.specs.Entries.{read_word, read_record, read_stored}
-use mathlib.Core.Path.{sym, ◌∙◌}
+use Prim.Native.Nat.{ℕ}
+use mathlib.Core.Path.{refl, sym, ◌∙◌}
 use Rattle.kalomivund.proofs.kalomivund_read_sheet.Goals as goal
 
 pub returns-then-f-lt54 : goal.returns-then-f-lt54
@@ -18,23 +21,23 @@ returns-then-f-lt54 c =
       stores = sym (short_keeps _ _ _);
     })
 
-pub returns-in_default : goal.returns-in_default
-unfolding read_word read_record read_stored read_walls
-returns-in_default c =
-    let read = c.read-reading.ensures in
-    let no = refuses read.answers c.in_default.is in
-    let word = rw read.answers at c.of_check.ensures in
+pub returns-in-Err : goal.returns-in-Err
+unfolding read_word read_record read_stored read_walls of_number map_outcome
+returns-in-Err c =
+    let read = c.in-Err.ensures in
+    let no = refuses (said_refusal Floor _ read.answers) refl in
+    let word = rw c.number.ensures at c.refused.ensures in
     rw (read_long _ _ c.if-f-lt54.false) (record {
-      says = word;
+      says = rw (gives_refused {A = ℕ} 0 no) word;
       records = sym (when_refused _ no);
       stores = read.stores;
     })
 
-pub returns : goal.returns
+pub returns-in-Ok : goal.returns-in-Ok
 unfolding read_word read_record read_stored read_floor read_walls of_number map_outcome
-returns c =
-    let read = c.read-reading.ensures in
-    let ok = passes read.answers c.in-Passed.is in
+returns-in-Ok c =
+    let read = c.in-Ok.ensures in
+    let ok = met_passed (said_value _ read.answers) in
     let floor = rw (read.returns, when_passed_lem _ ok) at c.store.ensures in
     rw (read_long _ _ c.if-f-lt54.false) (record {
       says = rw (gives_passed ok) c.done.ensures;

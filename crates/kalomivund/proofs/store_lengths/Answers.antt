@@ -3,6 +3,7 @@ use mathlib.Core.Path.{refl}
 use borrow.Author.Tests.{lt-leb, le-leb}
 use Rattle.laws.specs.Verdict.{demand, ◌gives◌, when_passed}
 use Rattle.floor.specs.Checks.{long_enough}
+use Rattle.laws.specs.Memory.{put}
 use Rattle.abi.specs.Word.{of_number, map_outcome}
 use Rattle.kalomivund.specs.Answers.{figure_list}
 use Rattle.kalomivund.proofs.store_lengths.Goals as goal
@@ -15,9 +16,9 @@ returns-then-out-lt9 c = rw (lt-leb 9 _ c.if-out-lt9.true) (record {
 })
 
 pub returns : goal.returns
-unfolding long_enough demand ◌gives◌ when_passed of_number map_outcome figure_list
+unfolding long_enough demand ◌gives◌ when_passed of_number map_outcome figure_list put
 returns c =
     rw (le-leb 9 _ c.if-out-lt9.false) (record {
       says = c.done.ensures;
-      stores = c.copy_figures.ensures;
+      stores = c.copy.ensures;
     })

@@ -4,4 +4,5 @@ use native.Mathlib.Omega.{arith}
 use Rattle.picture.proofs.print.Goals as goal
 
 pub put_refusal-n-requires : goal.put_refusal-n-requires
-put_refusal-n-requires c = (search place_small, omega arith)
+put_refusal-n-requires c =
+    (place_small _ _ c.no_walls-walls.ensures c.read.ensures.answers c.in-Err.is, omega arith)

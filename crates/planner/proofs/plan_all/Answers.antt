@@ -3,7 +3,7 @@
 use Prim.Native.Nat.{ℕ}
 use native.Mathlib.Omega.{arith}
 use mathlib.Core.List.{[]}
-use mathlib.Core.Path.{sym, ap, ◌∙◌}
+use mathlib.Core.Path.{ap, ◌∙◌}
 use borrow.Author.Rules.{rules}
 use lib.ListN.{length, length-replicate}
 use Rattle.layers.specs.Table.{search_grid_of}
@@ -19,18 +19,6 @@ pub search_grid_of-requires : goal.search_grid_of-requires
 search_grid_of-requires c =
     let able = c.requires.searchable 0 [] c.requires.some (omega arith) in
     (able.width.0, able.width.1, able.height)
-
-pub slice_bounds-make-end : goal.slice_bounds-make-end
-slice_bounds-make-end c =
-    sym (ap length c.empty-table.ensures ∙ length-replicate {A = ℕ} 2049 0)
-
-pub slice_bounds-make-end-2 : goal.slice_bounds-make-end-2
-slice_bounds-make-end-2 c =
-    sym (c.requires.searchable 0 [] c.requires.some (omega arith)).long
-
-pub slice_bounds-make-end-3 : goal.slice_bounds-make-end-3
-slice_bounds-make-end-3 c =
-    sym (ap length c.blank-shown.ensures ∙ length-replicate {A = ℕ} 520 0)
 
 pub make-requires : goal.make-requires
 unfolding search_grid_of
@@ -52,18 +40,6 @@ loop-i-init c = (
   seen_start _ _ _,
   empty_tidy _ _ c.empty-sets.ensures,
 )
-
-pub slice_bounds-plan_one-end : goal.slice_bounds-plan_one-end
-slice_bounds-plan_one-end c =
-    sym c.loop-i.invariant.1.tidy.long
-
-pub slice_bounds-plan_one-end-in-loop-i : goal.slice_bounds-plan_one-end-in-loop-i
-slice_bounds-plan_one-end-in-loop-i c =
-    sym c.loop-i.invariant.4.long
-
-pub slice_bounds-plan_one-end-in-loop-i-2 : goal.slice_bounds-plan_one-end-in-loop-i-2
-slice_bounds-plan_one-end-in-loop-i-2 c =
-    sym c.loop-i.invariant.2
 
 pub plan_one-requires : goal.plan_one-requires
 plan_one-requires c =
@@ -87,11 +63,6 @@ loop-i-preserved c =
       made.shown,
       made.tidy,
     )
-
-pub shape_of-answers : goal.shape_of-answers
-shape_of-answers c =
-    let p = c.requires in
-    plan_keeps _ _ p.horizon c.loop-i.i _ _ (omega (arith, p.lent)) c.loop-i.invariant.0
 
 pub returns : goal.returns
 returns c =

@@ -8,25 +8,12 @@ use Rattle.planner.proofs.PlanLaws.{shown_stored, still_long, still_shows}
 use Rattle.planner.proofs.TableLaws.{table_above, table_stored}
 use Rattle.planner.proofs.plan_one.Goals as goal
 
-pub take_last-requires : goal.take_last-requires
-take_last-requires c =
-    let p = c.requires in
-    let able = p.searchable.0 in record {
-      le_width = (able.width.0, able.width.1, able.height, able.horizon);
-      i_in_bounds = (omega (arith, p.i_bound), p.free_table.0.tidy);
-    }
-
 pub route_in-found-requires : goal.route_in-found-requires
 route_in-found-requires c =
     let p = c.requires in record {
       searchable = (p.searchable.0, p.free_table.1);
       free_table = table_above (c.take_last.ensures _ p.free_table.0);
     }
-
-pub store_seen-requires : goal.store_seen-requires
-store_seen-requires c =
-    let p = c.requires in
-    (p.i_bound.0, p.searchable.0.horizon, omega (arith, p.i_bound, c.store.auto.m), p.i_bound.2)
 
 pub returns : goal.returns
 returns c =

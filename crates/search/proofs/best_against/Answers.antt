@@ -3,11 +3,6 @@ use Rattle.layers.proofs.SetLaws.{empty_tidy}
 use Rattle.search.proofs.SearchLaws.{scene_fits, scene_clean, table_scene}
 use Rattle.search.proofs.best_against.Goals as goal
 
-pub search_grid_of-requires : goal.search_grid_of-requires
-search_grid_of-requires c =
-    let p = c.requires in
-    (p.width.0, p.width.1, p.height)
-
 pub make-requires : goal.make-requires
 make-requires c =
     let p = c.requires in

@@ -1,26 +1,7 @@
 -- `search::route_in` meets its contract: the search from the carrier's start to its docks in the free table of its floor. Assumes nothing.
-use mathlib.Core.Path.{sym, ◌∙◌}
 use Rattle.floor.specs.Checks.{start_of, count_of}
 use Rattle.search.proofs.SearchLaws.{scene_fits, scene_start, scene_docks, tidy_scene, best_views}
-use native.Mathlib.Omega.{arith}
 use Rattle.search.proofs.route_in.Goals as goal
-
-pub bounds-f-k : goal.bounds-f-k
-bounds-f-k c =
-    omega (arith, c.requires.searchable.0.listed)
-
-pub bounds-f-k-2 : goal.bounds-f-k-2
-bounds-f-k-2 c =
-    omega (arith, c.requires.searchable.0.listed)
-
-pub search_grid_of-requires : goal.search_grid_of-requires
-search_grid_of-requires c =
-    let p = c.requires.searchable.0 in
-    (p.width.0, p.width.1, p.height)
-
-pub docks_of-requires : goal.docks_of-requires
-docks_of-requires c =
-    omega (arith, c.requires.searchable.0.listed)
 
 pub seek-requires : goal.seek-requires
 unfolding start_of count_of
@@ -32,10 +13,6 @@ seek-requires c =
       grid = (x.grid, x.short, scene_start able q, scene_docks able q c.docks_of.ensures);
       tidy_2 = (rw q p.searchable.1, rw q p.free_table.tidy);
     }
-
-pub shape_of-sets : goal.shape_of-sets
-shape_of-sets c =
-    c.seek.ensures.tidy.long ∙ sym c.requires.searchable.1.long
 
 pub returns : goal.returns
 unfolding start_of count_of

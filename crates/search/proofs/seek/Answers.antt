@@ -10,11 +10,6 @@ use Rattle.search.proofs.SeekLaws.{start_shut, docks_shut, never, walk_best}
 use native.Mathlib.Omega.{arith}
 use Rattle.search.proofs.seek.Goals as goal
 
-pub member-requires : goal.member-requires
-member-requires c =
-    let p = c.requires in
-    (p.grid.0, p.tidy_2.1.long, omega arith, p.grid.2)
-
 pub returns-then-not-member : goal.returns-then-not-member
 returns-then-not-member c =
     let p = c.requires in
@@ -22,11 +17,6 @@ returns-then-not-member c =
       tidy = p.tidy_2.0;
       best = λ free vs h. sym (start_shut _ _ _ _ _ free vs h p.grid.1 p.grid.0.thin p.grid.3.few e);
     }
-
-pub hold_docks-ds-requires : goal.hold_docks-ds-requires
-hold_docks-ds-requires c =
-    let p = c.requires in
-    (p.grid.0, p.tidy_2.1.long, p.grid.1, p.grid.3)
 
 pub arrives-requires : goal.arrives-requires
 unfolding held_docks
@@ -52,11 +42,6 @@ forward-a-requires c =
       tidy = (p.tidy_2.0, p.tidy_2.1, rw d (holdable _ _ _ _ p.grid.3.few));
     }
 
-pub shape_of-sets-then-g-a : goal.shape_of-sets-then-g-a
-shape_of-sets-then-g-a c =
-    let p = c.requires in
-    (c.forward-a.ensures.reached 0 (omega arith) (omega arith)).tidy.long ∙ sym p.tidy_2.0.long
-
 pub returns-then-g-a : goal.returns-then-g-a
 returns-then-g-a c =
     let p = c.requires in
@@ -77,16 +62,6 @@ backward-requires c =
       grid = (p.grid.0, rw c.hold_docks-ds.ensures p.grid.3, omega (arith, p.grid.1, c.if-g-a.false));
       tidy = ((c.forward-a.ensures.reached 0 (omega arith) (omega arith)).tidy, p.tidy_2.1);
     }
-
-pub walk-requires : goal.walk-requires
-walk-requires c =
-    let p = c.requires in
-    (p.grid.0, c.backward.ensures.tidy, c.if-g-a.false, p.grid.1, p.grid.2)
-
-pub shape_of-sets : goal.shape_of-sets
-shape_of-sets c =
-    let p = c.requires in
-    c.backward.ensures.tidy.long ∙ sym p.tidy_2.0.long
 
 pub returns : goal.returns
 returns c =

