@@ -137,14 +137,12 @@ fn print_all<W: Write, E: Write + IsTerminal>(
         return Ok(());
     }
     print_total(writer, errors, total)?;
-    let mut first = 0;
-    while first < total {
+    for first in (0..total).step_by(LINES) {
         let count = (total - first).min(LINES as u64);
         let mut lines = [0u16; LINES * LINE];
         let _ = lister::runs_from(f, walls, first, &mut lines);
         print_lines(writer, errors, first, &lines[..LINE * count as usize])?;
-        first += count;
-        progress(errors, first, total);
+        progress(errors, first + count, total);
     }
     Ok(())
 }
