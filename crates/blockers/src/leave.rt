@@ -41,6 +41,7 @@ fn heard_digit(tag: u16) -> u16
 }
 
 // The carriers that are heard, a bit each.
+// Kept with a count: a slice of these records would be told in numbers, 65 a record, which is no plainer.
 pub fn set_of(views: &[u16], k: usize) -> u16
     requires { (k ≤ 8) × (65 * k ≤ length views.now) }
     ensures { result ≡ set_of (records views.now k) }

@@ -40,9 +40,6 @@ pub value_start : (text : List ℕ) → 0 ≡ min 4294967296 (value_in text 0)
 unfolding value_in
 value_start text = refl
 
-pub value_end : (text : List ℕ) (k n x : ℕ) → k ≤ n → n ≤ k → x ≡ min 4294967296 (value_in text k) → x ≡ min 4294967296 (value_in text n)
-value_end text k n x a b e = let same : k ≡ n = omega arith in rw same at e
-
 -- What is read of a text without bytes, of one with another byte, and of digits.
 module _ (text : List ℕ) where
   pub none_read : length text ≡ 0 → ReadsDecimal text None

@@ -27,8 +27,8 @@ use Rattle.printing.proofs.Theorems.{theorems as printing-theorems}
 use Rattle.reporting.specs.Text.{entry_count, report_text, report_length}
 use Rattle.reporting.specs.Put.{PutAt}
 use Rattle.reporting.proofs.ReportLaws.{report_within}
-use Rattle.trial.specs.declared.Tried.{Tried}
-use Rattle.trial.specs.declared.Tried.TheVariants.{Steps, Refused}
+use Rattle.std.specs.Prelude.{Result, Ok, Err}
+use Rattle.floor.specs.Answers.{number_of, outcome_by}
 use Rattle.trial.specs.Report.{report_numbers, report_size}
 use Rattle.trial.specs.Entry.{trial_verdict, trial_of, tried_outcome, trial_outcome, report_tried}
 use Rattle.trial.proofs.ReportLaws.{numbers_length}
@@ -68,7 +68,7 @@ module _ (f : Floor) (ws : List ℕ) (ok : check_of f ws ≡ passed) where
   report_short order seed = omega (arith, (trial-theorems.ends f ws order seed ok).within, ceiling_most f.carriers few)
 
   -- In that memory the answer is the order's verdict, or all steps.
-  pub order_says : (order seed state report : ℕ) (x : Tried) → 9666 ≤ state → 1004 ≤ report
+  pub order_says : (order seed state report : ℕ) (x : Result ℕ Refusal) → 9666 ≤ state → 1004 ≤ report
       → tried_outcome x ≡ trial_outcome f ws order seed state report
       → tried_outcome x ≡ (order_verdict order gives length (trial_of f ws order seed).report)
   unfolding trial_outcome
@@ -76,19 +76,19 @@ module _ (f : Floor) (ws : List ℕ) (ok : check_of f ws ≡ passed) where
       e ∙ ap (λ (x : Verdict). x gives length (trial_of f ws order seed).report) (order_decides order state report wide long)
 
   -- Steps taken, or a refusal.
-  module _ (order seed : ℕ) (y : Tried) (said : tried_outcome y ≡ (order_verdict order gives length (trial_of f ws order seed).report)) where
-    pub steps_told : (t : ℕ) → y ≡ Steps t → (order_verdict order ≡ passed) × (t ≡ length (trial_of f ws order seed).report)
-    unfolding tried_outcome
+  module _ (order seed : ℕ) (y : Result ℕ Refusal) (said : tried_outcome y ≡ (order_verdict order gives length (trial_of f ws order seed).report)) where
+    pub steps_told : (t : ℕ) → y ≡ Ok t → (order_verdict order ≡ passed) × (t ≡ length (trial_of f ws order seed).report)
+    unfolding outcome_by
     steps_told t e = given_value (order_verdict order) _ t (sym (ap tried_outcome e) ∙ said)
 
-    pub steps_low : (t : ℕ) → y ≡ Steps t → t ≤ 502
+    pub steps_low : (t : ℕ) → y ≡ Ok t → t ≤ 502
     steps_low t e = omega (arith, (steps_told t e).1, report_short order seed)
 
-    pub refusal_told : (x : Refusal) → y ≡ Refused x → (order_verdict order ≡ refused x.number x.place) × (x.place ≡ 0)
-    unfolding order_verdict tried_outcome
+    pub refusal_told : (x : Refusal) → y ≡ Err x → (order_verdict order ≡ refused (number_of x.reason) x.place) × (x.place ≡ 0)
+    unfolding order_verdict outcome_by
     refusal_told x e =
-        let told = given_refusal (order_verdict order) _ x.number x.place (sym (ap tried_outcome e) ∙ said) in
-        (told, omega (arith, demand_cases (within 1 3 order) 11 0 x.number x.place told))
+        let told = given_refusal (order_verdict order) _ (number_of x.reason) x.place (sym (ap tried_outcome e) ∙ said) in
+        (told, omega (arith, demand_cases (within 1 3 order) 11 0 (number_of x.reason) x.place told))
 
   -- The report's numbers stand in front of its memory.
   pub report_front : (order seed state : ℕ) (old new : List ℕ) (t : ℕ) → 9666 ≤ state → 1004 ≤ length old

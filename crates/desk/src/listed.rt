@@ -4,9 +4,8 @@ ghost use Rattle.std.specs.Prelude.{◌+◌, ◌≤◌, ◌<◌, length};
 
 use crate::texts::DESK;
 use console::Failed;
-use floor::{Checked, Floor, Refusal};
-use lister::{Counted, LINE, Listed};
-use printing::Printed;
+use floor::{Floor, Refusal};
+use lister::{LINE, Listed};
 use reporting::put_bytes;
 use std::io::{IsTerminal, Read, Write};
 
@@ -78,8 +77,8 @@ fn print_refusal<W: Write, E: Write>(
 ) -> Result<(), Failed> {
     let mut out = [0u8; TEXT];
     match printing::print_refusal(x, &mut out) {
-        Printed::Written(n) => write_front(writer, errors, &out, n),
-        Printed::Refused(_) => Ok(()),
+        Ok(n) => write_front(writer, errors, &out, n),
+        Err(_) => Ok(()),
     }
 }
 
@@ -138,14 +137,12 @@ fn print_all<W: Write, E: Write + IsTerminal>(
         return Ok(());
     }
     print_total(writer, errors, total)?;
-    let mut first = 0;
-    while first < total {
+    for first in (0..total).step_by(LINES) {
         let count = (total - first).min(LINES as u64);
         let mut lines = [0u16; LINES * LINE];
-        lister::runs_from(f, walls, first, &mut lines);
+        let _ = lister::runs_from(f, walls, first, &mut lines);
         print_lines(writer, errors, first, &lines[..LINE * count as usize])?;
-        first += count;
-        progress(errors, first, total);
+        progress(errors, first + count, total);
     }
     Ok(())
 }
@@ -158,8 +155,8 @@ fn list_all<W: Write, E: Write + IsTerminal>(
     walls: &[u16],
 ) -> Result<(), Failed> {
     match lister::runs_from(f, walls, 0, &mut [0u16; 1]) {
-        Counted::Total(total) => print_all(writer, errors, f, walls, total),
-        Counted::Refused(x) => print_refusal(writer, errors, x),
+        Ok(total) => print_all(writer, errors, f, walls, total),
+        Err(x) => print_refusal(writer, errors, x),
     }
 }
 
@@ -167,17 +164,16 @@ fn list_all<W: Write, E: Write + IsTerminal>(
 fn print_one<W: Write, E: Write>(
     writer: &mut W,
     errors: &mut E,
-    total: u64,
+    listed: Listed,
     rank: u64,
-    steps: u16,
     report: &[u16],
 ) -> Result<(), Failed>
     requires { 22 ≤ length report.now }
 {
     let mut line = [0u16; LINE];
-    line[0] = steps;
+    line[0] = listed.steps;
     line[1..].copy_from_slice(&report[..LINE - 1]);
-    print_total(writer, errors, total)?;
+    print_total(writer, errors, listed.total)?;
     print_run(writer, errors, rank, &line)
 }
 
@@ -191,8 +187,8 @@ fn list_one<W: Write, E: Write>(
 ) -> Result<(), Failed> {
     let mut report = [0u16; 1004];
     match lister::run_of_rank(f, walls, rank, &mut report) {
-        Listed::Run { total, steps } => print_one(writer, errors, total, rank, steps, &report),
-        Listed::Refused(x) => print_refusal(writer, errors, x),
+        Ok(listed) => print_one(writer, errors, listed, rank, &report),
+        Err(x) => print_refusal(writer, errors, x),
     }
 }
 
@@ -204,11 +200,10 @@ fn list_text<W: Write, E: Write + IsTerminal>(
     rank: Option<u64>,
 ) -> Result<(), Failed> {
     let mut space = sheet::no_walls();
-    let reading = sheet::read(text, &mut space);
-    if let Checked::Refused(x) = reading.answer {
-        return print_refusal(writer, errors, x);
-    }
-    let f = reading.floor;
+    let f = match sheet::read(text, &mut space) {
+        Ok(f) => f,
+        Err(x) => return print_refusal(writer, errors, x),
+    };
     let walls = space.get(..usize::from(f.walls)).ok_or(Failed)?;
     match rank {
         Some(rank) => list_one(writer, errors, f, walls, rank),

@@ -8,26 +8,11 @@ ghost use Rattle.printing.specs.Put.{TextPut};
 ghost use Rattle.reporting.specs.Text.{report_text};
 ghost use Rattle.desk.specs.Text.{order_verdict, played_text, trial_text};
 
-use floor::{Checked, Floor};
-use trial::Tried;
+use floor::Floor;
 
 // The length of the longest text: the report of 502 steps (16 bytes, and 21 a step), the routes of eight carriers (11 bytes, and 331 a
 // carrier).
 pub const TEXT_LENGTH: usize = 13217;
-
-// Room for the state of the most carriers.
-fn no_state() -> [u16; 9666]
-    ensures { 9666 ≡ length result }
-{
-    [0; 9666]
-}
-
-// Room for the report of the most steps.
-fn no_report() -> [u16; 1004]
-    ensures { 1004 ≡ length result }
-{
-    [0; 1004]
-}
 
 // Puts a report and, behind it, the routes of its floor; the length of both is returned.
 fn put_played(f: Floor, walls: &[u16], order: u16, report: &[u16], out: &mut [u8]) -> usize
@@ -47,12 +32,11 @@ fn put_trial(f: Floor, walls: &[u16], order: u16, seed: u32, out: &mut [u8]) -> 
         out.old out.new result }
 {
     let k = f.walls as usize;
-    let mut state = no_state();
-    let mut report = no_report();
-    let tried = trial::trial(f, &walls[..k], order, seed, &mut state, &mut report);
-    match tried {
-        Tried::Steps(t) => put_played(f, &walls[..k], order, &report[..2 * t], out),
-        Tried::Refused(x) => printing::put_refusal(x, out),
+    let mut state = [0; 9666];
+    let mut report = [0; 1004];
+    match trial::trial(f, &walls[..k], order, seed, &mut state, &mut report) {
+        Ok(t) => put_played(f, &walls[..k], order, &report[..2 * t], out),
+        Err(x) => printing::put_refusal(x, out),
     }
 }
 
@@ -63,11 +47,8 @@ pub fn print(text: &[u8], order: u16, seed: u32, out: &mut [u8; TEXT_LENGTH]) ->
     ensures prints { take result out.new ≡ trial_text text.now order seed }
 {
     let mut walls = sheet::no_walls();
-    let reading = sheet::read(text, &mut walls);
-    let checked = reading.answer;
-    let f = reading.floor;
-    let Checked::Refused(x) = checked else {
-        return put_trial(f, &walls, order, seed, out);
-    };
-    printing::put_refusal(x, out)
+    match sheet::read(text, &mut walls) {
+        Ok(f) => put_trial(f, &walls, order, seed, out),
+        Err(x) => printing::put_refusal(x, out),
+    }
 }

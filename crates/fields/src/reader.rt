@@ -1,5 +1,5 @@
-// Lines of a sheet one behind the other (document 01, 'The sheet'): from line to line, each begins at the column that the one before it
-// reached.
+// The reader of a sheet: the text together with its next column (document 01, 'The sheet', and its named form). It goes along the sheet from
+// line to line, each beginning at the column that the one before it reached.
 ghost use Rattle.std.specs.Prelude.{◌≡◌, ◌+◌, ◌*◌, ◌≤◌, ℕ};
 ghost use Rattle.laws.specs.Verdict.{Verdict, ◌gives◌};
 ghost use Rattle.fields.specs.Form.{line_form, counted_form, past_counted, past_pair, column_past, lines_form};
@@ -7,6 +7,32 @@ ghost use Rattle.fields.specs.Reached.{reached_of, Readable, ReadsAs};
 
 use crate::line;
 use floor::Refusal;
+
+// A text and the column that is read next.
+#[derive(Clone, Copy)]
+pub struct Reader<'a> {
+    pub text: &'a [u8],
+    pub column: usize,
+}
+
+impl<'a> Reader<'a> {
+    // The counted line that comes next; the column behind it.
+    pub fn counted(&self) -> Result<usize, Refusal>
+        requires { self.now.column ≤ 64000 }
+        ensures { reached_of result ≡ (counted_form self.now.text.now self.now.column
+            gives past_counted self.now.text.now self.now.column) }
+    {
+        line::counted_form(self.text, self.column)
+    }
+
+    // The line of two fields that comes next; the column behind it.
+    pub fn pair(&self) -> Result<usize, Refusal>
+        requires { self.now.column ≤ 65000 }
+        ensures { reached_of result ≡ (line_form self.now.text.now self.now.column 2 gives past_pair self.now.column) }
+    {
+        line::pair_form(self.text, self.column)
+    }
+}
 
 // n lines from a column on, one behind the other, each as `line` reads it; the column behind the last.
 fn lines<F: Fn(usize) -> Result<usize, Refusal>>(
@@ -31,7 +57,7 @@ pub fn counted_lines(text: &[u8], at: usize, n: usize) -> Result<usize, Refusal>
     ensures { reached_of result ≡ (lines_form (counted_form text.now) (past_counted text.now) at n
         gives column_past (past_counted text.now) at n) }
 {
-    lines(|column| line::counted_form(text, column), at, n)
+    lines(|column| Reader { text, column }.counted(), at, n)
 }
 
 // k lines of two fields from a column on, one behind the other; the column behind the last.
@@ -40,5 +66,5 @@ pub fn pair_lines(text: &[u8], at: usize, k: usize) -> Result<usize, Refusal>
     ensures { reached_of result ≡ (lines_form (λ c. line_form text.now c 2) past_pair at k
         gives column_past past_pair at k) }
 {
-    lines(|column| line::pair_form(text, column), at, k)
+    lines(|column| Reader { text, column }.pair(), at, k)
 }

@@ -8,8 +8,8 @@ ghost use Rattle.reporting.specs.Put.{PutAt};
 ghost use Rattle.maps.specs.Text.{marks_text};
 ghost use Rattle.maps.specs.Map.{start_marks};
 ghost use Rattle.frames.specs.Text.{still_mark, present_of, present_in, frame_mark};
-ghost use Rattle.frames.specs.Inner.{Drawable};
 
+use crate::scene::Scene;
 use floor::Floor;
 use records::SIZE;
 use reporting::put_bytes;
@@ -57,6 +57,7 @@ fn put_carrier(
     ensures { PutAt (present_of f t c i (answer_in own.now i)) out.old at out.new result }
 {
     let tag = SIZE * i;
+    // Kept: a record's tag is a number in the memory that C reads; 2 is that of a route.
     if own[tag] != 2 {
         return put_stranded(f, c, i, out, at);
     }
@@ -91,28 +92,28 @@ fn put_carriers(f: Floor, own: &[u16], t: usize, c: u16, out: &mut [u8]) -> usiz
 }
 
 // The mark of cell c at beat t.
-fn frame_mark(f: Floor, walls: &[u16], own: &[u16], t: usize, c: u16) -> u8
-    requires { Drawable f walls.now own.now × (t ≤ 63) }
-    ensures { result ≡ frame_mark f walls.now (answer_in own.now) t c }
+fn frame_mark(scene: &Scene, t: usize, c: u16) -> u8
+    requires { t ≤ 63 }
+    ensures { result ≡ frame_mark scene.now.floor scene.now.walls.now (answer_in scene.now.own.now) t c }
 {
     let mut there = [0u8; 8];
-    let n = put_carriers(f, own, t, c, &mut there);
+    let n = put_carriers(scene.floor, scene.own, t, c, &mut there);
     match n {
-        0 => still_mark(f, walls, c),
+        0 => still_mark(scene.floor, scene.walls, c),
         1 => there[0],
         _ => b'*',
     }
 }
 
 // Puts the marks of all cells at beat t.
-pub fn put_cells(f: Floor, walls: &[u16], own: &[u16], t: usize, out: &mut [u8]) -> usize
-    requires { Drawable f walls.now own.now × (t ≤ 63) × (1024 ≤ length out.old) }
-    ensures { PutAt (marks_text (frame_mark f walls.now (answer_in own.now) t) 1024)
+pub fn put_cells(scene: &Scene, t: usize, out: &mut [u8]) -> usize
+    requires { (t ≤ 63) × (1024 ≤ length out.old) }
+    ensures { PutAt (marks_text (frame_mark scene.now.floor scene.now.walls.now (answer_in scene.now.own.now) t) 1024)
         out.old 0 out.new result }
 {
     let mut at: usize = 0;
     for c in 0..1024 {
-        at = put_bytes(out, at, &[frame_mark(f, walls, own, t, c)]);
+        at = put_bytes(out, at, &[frame_mark(scene, t, c)]);
     }
     at
 }

@@ -4,6 +4,7 @@
 
 mod cells;
 mod lines;
+mod scene;
 
 ghost use Rattle.std.specs.Prelude.{◌≡◌, ◌+◌, ◌≤◌, ◌<◌, ◌++◌, ◌∷◌, [], length, take};
 ghost use Rattle.io.specs.Counts.{IsPrefixLen};
@@ -14,10 +15,10 @@ ghost use Rattle.sheet.specs.Text.{lines_of};
 ghost use Rattle.printing.specs.Put.{TextPut};
 ghost use Rattle.reporting.specs.Put.{PutAt};
 ghost use Rattle.frames.specs.Text.{frame_of, draw_head, floor_text, floor_beat, draw_text, beat_text};
-ghost use Rattle.frames.specs.Inner.{Drawable};
 
 use floor::Floor;
 use reporting::put_bytes;
+use scene::Scene;
 
 // Room for every text: a map, an empty line, eight lines of 46 bytes, and for 64 beats an empty line, a line of 8 bytes and 32 rows of 33.
 pub const TEXT_LENGTH: usize = 89061;
@@ -33,37 +34,37 @@ pub fn no_text() -> [u8; TEXT_LENGTH]
 }
 
 // Puts the head of the text: the map, an empty line, a line a carrier; the column behind it is returned.
-fn put_head(f: Floor, walls: &[u16], own: &[u16], out: &mut [u8]) -> usize
-    requires { Drawable f walls.now own.now × (20901 ≤ length out.old) }
-    ensures { PutAt (draw_head f walls.now (answer_in own.now)) out.old 0
+fn put_head(scene: &Scene, out: &mut [u8]) -> usize
+    requires { 20901 ≤ length out.old }
+    ensures { PutAt (draw_head scene.now.floor scene.now.walls.now (answer_in scene.now.own.now)) out.old 0
         out.new result }
 {
-    let n1 = maps::put_map(f, walls, out, 0);
+    let n1 = maps::put_map(scene.floor, scene.walls, out, 0);
     let n2 = put_bytes(out, n1, b"\n");
-    lines::put_arrivals(f, own, out, n2)
+    lines::put_arrivals(scene.floor, scene.own, out, n2)
 }
 
 // Puts an empty line and the floor at a beat; the column behind them is returned.
-fn put_next(f: Floor, walls: &[u16], own: &[u16], t: usize, out: &mut [u8], at: usize) -> usize
-    requires { Drawable f walls.now own.now × (t ≤ 63) × (at + 1065 ≤ length out.old) }
-    ensures { PutAt ((10 ∷ []) ++ frame_of f walls.now (answer_in own.now) t)
+fn put_next(scene: &Scene, t: usize, out: &mut [u8], at: usize) -> usize
+    requires { (t ≤ 63) × (at + 1065 ≤ length out.old) }
+    ensures { PutAt ((10 ∷ []) ++ frame_of scene.now.floor scene.now.walls.now (answer_in scene.now.own.now) t)
         out.old at out.new result }
 {
     let n1 = put_bytes(out, at, b"\n");
-    lines::put_frame(f, walls, own, t, out, n1)
+    lines::put_frame(scene, t, out, n1)
 }
 
 // Puts the beats from 0 to the horizon; the column behind them is returned.
-fn put_beats(f: Floor, walls: &[u16], own: &[u16], out: &mut [u8], at: usize) -> usize
-    requires { Drawable f walls.now own.now × (at + 68160 ≤ length out.old) }
-    ensures { PutAt (lines_of (λ t. (10 ∷ []) ++ frame_of f walls.now (answer_in own.now) t)
-        (f.horizon + 1))
+fn put_beats(scene: &Scene, out: &mut [u8], at: usize) -> usize
+    requires { at + 68160 ≤ length out.old }
+    ensures { PutAt (lines_of (λ t. (10 ∷ []) ++ frame_of scene.now.floor scene.now.walls.now (answer_in scene.now.own.now) t)
+        (scene.now.floor.horizon + 1))
         out.old at out.new result }
 {
-    let n = f.horizon as usize + 1;
+    let n = scene.floor.horizon as usize + 1;
     let mut end = at;
     for t in 0..n {
-        end = put_next(f, walls, own, t, out, end);
+        end = put_next(scene, t, out, end);
     }
     end
 }
@@ -74,8 +75,13 @@ fn put_whole(f: Floor, walls: &[u16], out: &mut [u8]) -> usize
     ensures { TextPut (floor_text f walls.now) out.old out.new result }
 {
     let own = blockers::plan_own(f, walls);
-    let n1 = put_head(f, walls, &own, out);
-    put_beats(f, walls, &own, out, n1)
+    let scene = Scene {
+        floor: f,
+        walls,
+        own: &own,
+    };
+    let n1 = put_head(&scene, out);
+    put_beats(&scene, out, n1)
 }
 
 // Puts the text of beat t for a checked floor, nothing if it is above the horizon; its length is returned.
@@ -87,7 +93,12 @@ fn put_beat(f: Floor, walls: &[u16], t: u16, out: &mut [u8]) -> usize
         return 0;
     }
     let own = blockers::plan_own(f, walls);
-    lines::put_frame(f, walls, &own, t as usize, out, 0)
+    let scene = Scene {
+        floor: f,
+        walls,
+        own: &own,
+    };
+    lines::put_frame(&scene, t as usize, out, 0)
 }
 
 // Prints the map, the arrivals and all beats of any text that is a sheet, and of any other text the line of its refusal; the number of

@@ -4,9 +4,9 @@ ghost use Rattle.records.specs.Records.{answer_in};
 ghost use Rattle.sheet.specs.Text.{lines_of};
 ghost use Rattle.reporting.specs.Put.{PutAt};
 ghost use Rattle.frames.specs.Text.{arrival_words, arrival_line, frame_rows, frame_of};
-ghost use Rattle.frames.specs.Inner.{Drawable};
 
 use crate::cells;
+use crate::scene::Scene;
 use floor::Floor;
 use records::SIZE;
 use reporting::put_bytes;
@@ -17,6 +17,7 @@ fn put_words(f: Floor, own: &[u16], i: usize, out: &mut [u8], at: usize) -> usiz
     ensures { PutAt (arrival_words f (answer_in own.now i)) out.old at out.new result }
 {
     let tag = SIZE * i;
+    // Kept: a record's tag is a number in the memory that C reads; 2 is that of a route.
     if own[tag] != 2 {
         return put_bytes(out, at, b" has no route and stays at its start\n");
     }
@@ -51,24 +52,30 @@ pub fn put_arrivals(f: Floor, own: &[u16], out: &mut [u8], at: usize) -> usize
 }
 
 // Puts the rows of beat t; the column behind them is returned.
-fn put_rows(f: Floor, walls: &[u16], own: &[u16], t: usize, out: &mut [u8], at: usize) -> usize
-    requires { Drawable f walls.now own.now × (t ≤ 63) × (at + 1056 ≤ length out.old) }
-    ensures { PutAt (frame_rows f walls.now (answer_in own.now) t) out.old at
+fn put_rows(scene: &Scene, t: usize, out: &mut [u8], at: usize) -> usize
+    requires { (t ≤ 63) × (at + 1056 ≤ length out.old) }
+    ensures { PutAt (frame_rows scene.now.floor scene.now.walls.now (answer_in scene.now.own.now) t) out.old at
         out.new result }
 {
     let mut marks = maps::no_marks();
-    cells::put_cells(f, walls, own, t, &mut marks);
-    maps::put_grid(&marks, f.width as usize, f.height as usize, out, at)
+    cells::put_cells(scene, t, &mut marks);
+    maps::put_grid(
+        &marks,
+        scene.floor.width as usize,
+        scene.floor.height as usize,
+        out,
+        at,
+    )
 }
 
 // Puts the line of beat t and the floor at that beat; the column behind them is returned.
-pub fn put_frame(f: Floor, walls: &[u16], own: &[u16], t: usize, out: &mut [u8], at: usize) -> usize
-    requires { Drawable f walls.now own.now × (t ≤ 63) × (at + 1064 ≤ length out.old) }
-    ensures { PutAt (frame_of f walls.now (answer_in own.now) t) out.old at
+pub fn put_frame(scene: &Scene, t: usize, out: &mut [u8], at: usize) -> usize
+    requires { (t ≤ 63) × (at + 1064 ≤ length out.old) }
+    ensures { PutAt (frame_of scene.now.floor scene.now.walls.now (answer_in scene.now.own.now) t) out.old at
         out.new result }
 {
     let n1 = put_bytes(out, at, b"beat ");
     let n2 = reporting::put_short_decimal(out, n1, t);
     let n3 = put_bytes(out, n2, b"\n");
-    put_rows(f, walls, own, t, out, n3)
+    put_rows(scene, t, out, n3)
 }

@@ -72,6 +72,7 @@ fn request(f: Floor, walls: &[u16], carrier: u16, lent: usize) -> Result<(), Ref
 }
 
 // What a record that passes its tests is, by its tag.
+// Kept: the tag is a number of the record that C lends.
 fn kind(tag: u16, cells: Route, horizon: u16) -> Record
     requires { horizon ≤ 63 }
     ensures { record_meant result ≡ record_kind tag (arrival_of cells horizon) }

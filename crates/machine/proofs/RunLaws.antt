@@ -9,9 +9,8 @@ use mathlib.Core.Path.{◌≡◌, refl, sym, ◌∙◌, ap}
 use lib.Dec.{ltb}
 use lib.ListN.{length, get_or, drop, drop_of_length-le}
 use lib.Seq.{drop-cons}
-use borrow.Author.Tests.{lt-ltb, le-ltb, eq-eqb, ne_eqb}
+use borrow.Author.Tests.{lt-ltb, le-ltb}
 use Rattle.reference.specs.State.{Machine}
-use Rattle.reference.specs.Ending.{ends_as, silent, spent, ended}
 use Rattle.reference.specs.Calls.{ran}
 use Rattle.encoding.specs.Numbers.{asked_by}
 use Rattle.encoding.specs.InnerSteps.{silent_in}
@@ -107,26 +106,6 @@ module _ (M : Machine) (m₀ xs : List ℕ) (b : ℕ) where
 pub tried_one : (taken : Bool) {n : ℕ} → n ≡ from_bool taken → n ≤ 1
 tried_one true q = omega arith
 tried_one false q = omega arith
-
--- How a run ends, a law a case of the code.
-module _ {said x : Bool} (t bu n p : ℕ) (same : said ≡ x) where
-  pub ends_silent : said ≡ true → silent ≡ ends_with x t bu n p
-  unfolding ends_with ends_as
-  ends_silent e = rw (← same, e) refl
-
-  pub ends_unspent : said ≡ false → (t ≡ bu → ⊥) → ended ≡ ends_with x t bu n p
-  unfolding ends_with ends_as
-  ends_unspent e h = rw (← same, e, ne_eqb t bu h) refl
-
-  pub ends_spent : said ≡ false → t ≡ bu → n < p → spent ≡ ends_with x t bu n p
-  unfolding ends_with ends_as
-  ends_spent e h k = rw (← same, e, eq-eqb t bu h, lt-ltb n p k) refl
-
-  pub ends_read : said ≡ false → t ≡ bu → p ≤ n → ended ≡ ends_with x t bu n p
-  unfolding ends_with ends_as
-  ends_read e h k = rw (← same, e, eq-eqb t bu h, le-ltb n p k) refl
-
-pub ruleset ending_cases = (ends_silent, ends_unspent, ends_spent, ends_read)
 
 -- The answer of a run, from what its loop has come to.
 pub ran_is : (M : Machine) (x : RanIn) (b listed taken read : ℕ) (m : List ℕ) → Tallied x b listed taken read m →

@@ -40,6 +40,19 @@ fn alone(f: Floor, walls: &[u16], i: u16) -> Option<Route>
     search::search(f, walls, i, &records::blank()).unwrap()
 }
 
+// Two carriers of an accepted floor, and their routes.
+#[derive(Clone, Copy)]
+struct Pair<'a> {
+    floor: Floor,
+    walls: &'a [u16],
+    i: u16,
+    j: u16,
+    r: Route,
+    q: Route,
+    ghost accepted: { check_of floor walls.now ≡ passed },
+    ghost listed: { pair_verdict floor i j ≡ passed },
+}
+
 // Puts words, a number and words behind it in front of a memory; the length of all is returned.
 fn put_line(words: &[u8], n: usize, end: &[u8], out: &mut [u8]) -> usize
     requires { (n < 100) × (length words.now + 2 + length end.now ≤ length out.old) }
@@ -80,56 +93,38 @@ fn two_places(i: u16, c: u16, j: u16, d: u16) -> Places
 }
 
 // Puts the floor with two carriers at a beat of their routes; the length of the drawing is returned.
-fn put_beat(
-    f: Floor,
-    walls: &[u16],
-    i: u16,
-    j: u16,
-    r: Route,
-    q: Route,
-    t: usize,
-    out: &mut [u8],
-) -> usize
-    requires { (check_of f walls.now ≡ passed) × (pair_verdict f i j ≡ passed) × (t ≤ 63) × (1056 ≤ length out.old) }
-    ensures { TextPut (drawn_floor f walls.now (two_places i (cell_at r t) j (cell_at q t)))
-        out.old out.new result }
+fn put_beat(pair: &Pair, t: usize, out: &mut [u8]) -> usize
+    requires { (t ≤ 63) × (1056 ≤ length out.old) }
+    ensures { TextPut (drawn_floor pair.now.floor pair.now.walls.now
+        (two_places pair.now.i (cell_at pair.now.r t) pair.now.j (cell_at pair.now.q t))) out.old out.new result }
 {
-    drawing::put_floor(f, walls, two_places(i, r[t], j, q[t]), out)
+    let places = two_places(pair.i, pair.r[t], pair.j, pair.q[t]);
+    drawing::put_floor(pair.floor, pair.walls, places, out)
 }
 
 // Puts the floor at the beat of a first conflict; the length of the drawing is returned, 0 where there is no conflict.
-fn put_drawing(
-    f: Floor,
-    walls: &[u16],
-    i: u16,
-    j: u16,
-    r: Route,
-    q: Route,
-    found: Option<Conflict>,
-    out: &mut [u8],
-) -> usize
-    requires walls_value { (check_of f walls.now ≡ passed) × (pair_verdict f i j ≡ passed) }
+fn put_drawing(pair: &Pair, found: Option<Conflict>, out: &mut [u8]) -> usize
     requires early { Early (conflict_told found) × (1056 ≤ length out.old) }
-    ensures { TextPut (conflict_drawing f walls.now i j r q (conflict_told found)) out.old
-        out.new result }
+    ensures { TextPut (conflict_drawing pair.now.floor pair.now.walls.now pair.now.i pair.now.j pair.now.r pair.now.q
+        (conflict_told found)) out.old out.new result }
 {
     match found {
         None => 0,
-        Some(Conflict::SameCell(t)) => put_beat(f, walls, i, j, r, q, t, out),
-        Some(Conflict::ChangeOfPlaces(t)) => put_beat(f, walls, i, j, r, q, t, out),
-        Some(Conflict::Following(t)) => put_beat(f, walls, i, j, r, q, t, out),
+        Some(Conflict::SameCell(t)) => put_beat(pair, t, out),
+        Some(Conflict::ChangeOfPlaces(t)) => put_beat(pair, t, out),
+        Some(Conflict::Following(t)) => put_beat(pair, t, out),
     }
 }
 
 // Puts the line of the first conflict of two routes and, behind it, the floor at its beat; the length of both is returned.
-fn put_met(f: Floor, walls: &[u16], i: u16, j: u16, r: Route, q: Route, out: &mut [u8]) -> usize
-    requires { (check_of f walls.now ≡ passed) × (pair_verdict f i j ≡ passed) × (1087 ≤ length out.old) }
-    ensures { TextPut (met_text f walls.now i j (route r) (route q)) out.old
-        out.new result }
+fn put_met(pair: &Pair, out: &mut [u8]) -> usize
+    requires { 1087 ≤ length out.old }
+    ensures { TextPut (met_text pair.now.floor pair.now.walls.now pair.now.i pair.now.j (route pair.now.r) (route pair.now.q))
+        out.old out.new result }
 {
-    let found = route::first_conflict(r, q, f.horizon);
+    let found = route::first_conflict(pair.r, pair.q, pair.floor.horizon);
     let n = put_conflict(found, out);
-    n + put_drawing(f, walls, i, j, r, q, found, &mut out[n..])
+    n + put_drawing(pair, found, &mut out[n..])
 }
 
 // Puts the line of a carrier without a route; its length is returned.
@@ -152,7 +147,15 @@ fn put_meeting(f: Floor, walls: &[u16], i: u16, j: u16, out: &mut [u8]) -> usize
     let Some(q) = alone(f, walls, j) else {
         return put_none(j, out);
     };
-    put_met(f, walls, i, j, r, q, out)
+    let pair = Pair {
+        floor: f,
+        walls,
+        i,
+        j,
+        r,
+        q,
+    };
+    put_met(&pair, out)
 }
 
 // Puts the meeting of two carriers of a floor that was read, with its walls in front of `walls`; its length is returned.

@@ -18,6 +18,7 @@ pub fn told(found: Option<Route>) -> (u16, Route)
 }
 
 // The first of n records that has no route, counted from 1.
+// Kept with a count: a slice of these records would be told in numbers, 65 a record, which is no plainer.
 pub fn failing(answers: &[u16], n: usize) -> Option<usize>
     requires { (n ≤ 8) × (65 * n ≤ length answers.now) }
     ensures { failing_meant result ≡ first_from answers.now 0 n }

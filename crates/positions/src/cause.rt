@@ -44,19 +44,22 @@ fn outside_field(text: &[u8], start: usize) -> usize
         .unwrap_or(0)
 }
 
-// Whether two pairs of fields, each at a field of a line that begins at a column, are the same.
-pub fn same_pair(text: &[u8], a: usize, field: usize, b: usize, other: usize) -> bool
-    requires { (field ≤ 10) × (other ≤ 10) }
+// The pair at a field of the line that begins at a column: the column and the row of a cell.
+pub fn pair_at(text: &[u8], start: usize, field: usize) -> (usize, usize)
+    requires { field ≤ 10 }
 {
-    sheet_line::field_at(text, a, field) == sheet_line::field_at(text, b, other)
-        && sheet_line::field_at(text, a, field + 1) == sheet_line::field_at(text, b, other + 1)
+    (
+        sheet_line::field_at(text, start, field),
+        sheet_line::field_at(text, start, field + 1),
+    )
 }
 
 // Whether a pair is that of one of k walls, the first of which has its line at a column.
 fn is_wall(text: &[u8], start: usize, field: usize, base: usize, k: usize) -> bool
     requires { field ≤ 10 }
 {
-    (0..k).any(|j| same_pair(text, start, field, sheet_line::wall_start(base, j), 0))
+    let pair = pair_at(text, start, field);
+    (0..k).any(|j| pair_at(text, sheet_line::wall_start(base, j), 0) == pair)
 }
 
 // The first field of the first pair of a line that is a wall.
@@ -75,7 +78,8 @@ fn wall_field(text: &[u8], start: usize) -> usize
 fn is_repeated(text: &[u8], start: usize, k: usize) -> bool
     requires { k ≤ 4 }
 {
-    (1..k).any(|pair| same_pair(text, start, pair_field(k), start, pair_field(pair)))
+    let dock = pair_at(text, start, pair_field(k));
+    (1..k).any(|pair| pair_at(text, start, pair_field(pair)) == dock)
 }
 
 // The first field of the first dock of a line that stands before in its list.
@@ -107,7 +111,8 @@ pub fn cause(text: &[u8], x: Refusal) -> usize
 // The carrier with the start of an item's line.
 pub fn sharer(text: &[u8], start: usize) -> usize {
     let n = sheet_line::carriers(text);
+    let cell = pair_at(text, start, 0);
     (1..n)
-        .find(|i| same_pair(text, start, 0, item_start(text, *i), 0))
+        .find(|i| pair_at(text, item_start(text, *i), 0) == cell)
         .unwrap_or(n)
 }

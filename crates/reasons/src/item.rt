@@ -2,7 +2,7 @@
 // from 0.
 ghost use Rattle.std.specs.Prelude.{◌≤◌};
 
-use positions::cause::{bound_of, is_column, item_start, same_pair, sharer};
+use positions::cause::{bound_of, is_column, item_start, pair_at, sharer};
 use positions::sheet_line;
 use wording::Text;
 
@@ -36,17 +36,16 @@ pub fn put_outside(text: &[u8], item: usize, field: usize, out: &mut Text<'_>)
 fn put_walls(text: &[u8], j: usize, start: usize, before: usize, out: &mut Text<'_>)
     requires { 1 ≤ j }
 {
-    if same_pair(text, start, 0, before, 0) {
-        return out.fill(b"wall % is wall % again", &[j, j - 1]);
+    let (column, row) = pair_at(text, start, 0);
+    let (first, second) = pair_at(text, before, 0);
+    if column == first && row == second {
+        out.fill(b"wall % is wall % again", &[j, j - 1]);
+    } else {
+        out.fill(
+            b"wall % (column %, row %) must come before wall % (column %, row %)",
+            &[j, column, row, j - 1, first, second],
+        );
     }
-    let column = sheet_line::field_at(text, start, 0);
-    let row = sheet_line::field_at(text, start, 1);
-    let first = sheet_line::field_at(text, before, 0);
-    let second = sheet_line::field_at(text, before, 1);
-    out.fill(
-        b"wall % (column %, row %) must come before wall % (column %, row %)",
-        &[j, column, row, j - 1, first, second],
-    );
 }
 
 // Puts that a wall does not come behind the one before it.
@@ -65,9 +64,7 @@ pub fn put_order(text: &[u8], item: usize, out: &mut Text<'_>)
 pub fn put_on_wall(text: &[u8], item: usize, field: usize, out: &mut Text<'_>)
     requires { (item ≤ 99999) × (field ≤ 10) }
 {
-    let start = item_start(text, item);
-    let column = sheet_line::field_at(text, start, field);
-    let row = sheet_line::field_at(text, start, field + 1);
+    let (column, row) = pair_at(text, item_start(text, item), field);
     put_item(text, item, field, out);
     out.fill(b" (column %, row %) is a wall", &[column, row]);
 }
@@ -77,8 +74,7 @@ pub fn put_shared(text: &[u8], item: usize, out: &mut Text<'_>)
     requires { item ≤ 99999 }
 {
     let start = item_start(text, item);
-    let column = sheet_line::field_at(text, start, 0);
-    let row = sheet_line::field_at(text, start, 1);
+    let (column, row) = pair_at(text, start, 0);
     out.fill(
         b"carrier % starts where carrier % starts (column %, row %)",
         &[item, sharer(text, start), column, row],
@@ -89,9 +85,7 @@ pub fn put_shared(text: &[u8], item: usize, out: &mut Text<'_>)
 pub fn put_twice(text: &[u8], item: usize, field: usize, out: &mut Text<'_>)
     requires { (item ≤ 99999) × (field ≤ 10) }
 {
-    let start = item_start(text, item);
-    let column = sheet_line::field_at(text, start, field);
-    let row = sheet_line::field_at(text, start, field + 1);
+    let (column, row) = pair_at(text, item_start(text, item), field);
     out.fill(
         b"carrier % has the dock column %, row % twice",
         &[item, column, row],

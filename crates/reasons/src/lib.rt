@@ -101,8 +101,8 @@ fn put_refused(text: &[u8], x: Refusal, field: usize, out: &mut [u8]) -> usize
 // The docks of all carriers of a floor.
 fn docks(f: Floor) -> usize {
     let mut sum: usize = 0;
-    for i in 0..(f.carriers as usize).min(8) {
-        sum += f.counts[i] as usize;
+    for &count in f.counts.iter().take(f.carriers as usize) {
+        sum += count as usize;
     }
     sum
 }

@@ -1,7 +1,7 @@
--- Walls taken out of rows, and words of ones.
-use Prim.Native.Nat.{ℕ, zero, suc, ◌+◌, ◌*◌, ◌-◌, ◌/◌, ◌%◌, ◌^◌, ◌≤◌, ◌<◌}
+-- Rows filled, and walls taken out of them.
+use Prim.Native.Nat.{ℕ, zero, suc, ◌+◌, ◌*◌, ◌-◌, ◌/◌, ◌%◌, ◌≤◌, ◌<◌}
 use native.Mathlib.Omega.{arith}
-use native.Mathlib.Nat.{one-mul, mod-eq_of_lt, mod-lt, div-add-mod', zero-add}
+use native.Mathlib.Nat.{mod-lt, div-add-mod', zero-add}
 use mathlib.Core.Bool.{true, false, ◌&&◌, not, and-false}
 use mathlib.Core.List.{List, ◌∷◌, ◌++◌}
 use mathlib.Core.Path.{◌≡◌, refl, sym, ap, ◌∙◌}
@@ -10,19 +10,11 @@ use lib.Dec.{eqb}
 use lib.ListN.{length, get_or, take, drop, replicate, length-replicate}
 use lib.Seq.{length-take-le, drop-cons}
 use Rattle.std.proofs.lemmas.List.{set_at}
-use lib.Pow.{pow-lt, pow_mono, pow_pos}
 use Rattle.laws.proofs.Tests.{true_false_absurd, not_true_is_false, not_is_true, same_test, not_refutes}
 use Rattle.floor.specs.Checks.{among}
 use Rattle.floor.proofs.AmongLaws.{among_found, among_place}
 use Rattle.bitrows.specs.Rows.{has, filled, dropped_at, Clean}
 use Rattle.bitrows.proofs.RowsLaws.{has_dropped_at, fewer_at, length_at}
-
--- The word before a run of ones, as the code makes it.
-pub ones_word : (n : ℕ) → n ≤ 32 → 1 * 2 ^ n % 2 ^ 64 ≡ 2 ^ n
-ones_word n h = rw one-mul (mod-eq_of_lt (pow-lt {i = n} {j = 64} (omega arith)))
-
-pub ones_fit : (n : ℕ) → n ≤ 32 → (1 ≤ 2 ^ n) × (2 ^ n ≤ 2 ^ 32)
-ones_fit n h = (pow_pos n, pow_mono h)
 
 -- The rows of a grid, as a slice of them filled with one word.
 rows_filled : (rows : List ℕ) (x n : ℕ) → n ≤ length rows → replicate n x ++ drop n rows ≡ filled rows (λ row. x) n

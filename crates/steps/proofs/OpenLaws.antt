@@ -4,12 +4,12 @@ use native.Mathlib.Omega.{arith}
 use native.Mathlib.Numerals.{add-one}
 use mathlib.Core.Bool.{Bool, true, false, ◌&&◌, not, and-false}
 use mathlib.Core.List.{List}
-use mathlib.Core.Path.{◌≡◌, refl, sym, ap, ◌∙◌}
+use mathlib.Core.Path.{◌≡◌, refl, sym, ap}
 use lib.Dec.{leb, ltb, eqb}
 use lib.ListN.{get_or}
 use borrow.Author.Tests.{le-leb, lt-leb, lt-ltb, le-ltb, ltb-true, eq-eqb, ne_eqb}
 use borrow.Author.Rules.{rules}
-use Rattle.laws.specs.Verdict.{Verdict, passed, refused, ◌then◌, demand, demand_each, passes, each}
+use Rattle.laws.specs.Verdict.{passed, refused, ◌then◌, demand, demand_each, passes, each}
 use Rattle.laws.proofs.Tests.{and_both, and_fst, and_snd, or_inl}
 use Rattle.laws.proofs.VerdictLaws.{then_both, then_passed, demand_holds, demand_passes, demand_refuses, tests_go_on, tests_stop, each_end}
 use Rattle.laws.proofs.EachLaws.{all_passes}
@@ -136,11 +136,6 @@ module _ (f : Floor) (m : List ℕ) where
   unfolding open_in is_there bare machine_of
   receiver_absent j i l = rw (le-ltb i f.carriers l, and-false (ltb j i)) refl
 
-  -- A step that is there is open if it waits for nothing.
-  pub open_waits : (x : Step) (y : Verdict) → is_there (bare f) x ≡ true → y ≡ waits_in (bare f) m x → passes y ≡ open_in (bare f) m x
-  unfolding open_in
-  open_waits x y t e = rw (t, e) refl
-
   -- What a plan waits for: 8 where it is not due; otherwise what the search for a full channel has found.
   pub plan_early : (i : ℕ) → (get_or m (due_place i) 0 ≡ 1 → ⊥) → refused 8 0 ≡ waits_in (bare f) m (plan i)
   unfolding waits_in demand ◌then◌
@@ -202,10 +197,6 @@ silent_is f m =
     rw add-one
     (each_same (f.carriers - suc j) (delivery_shut f m j) (λ d. shut_in (bare f) m (deliver j (suc j + d)))
     (λ d k. rw add-one refl))))
-
-pub silent_by : {x : Bool} (f : Floor) (m : List ℕ) → x ≡ (each f.carriers (plan_shut f m) && each f.carriers (sender_shut f m)) →
-    x ≡ silent_in (bare f) m
-silent_by f m e = e ∙ silent_is f m
 
 -- A law a case of the code that tests whether a plan, or a delivery, is open.
 pub ruleset plan_cases = (plan_absent, plan_not_due, plan_is_open, rules)

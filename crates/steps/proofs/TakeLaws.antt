@@ -1,7 +1,7 @@
 -- Taking an open step: what the stores come to.
 use Prim.Native.Nat.{ℕ, ◌+◌, ◌*◌}
 use native.Mathlib.Omega.{arith}
-use mathlib.Core.Bool.{Bool, true, false, cond}
+use mathlib.Core.Bool.{Bool, cond}
 use mathlib.Core.List.{List, [], ◌∷◌}
 use mathlib.Core.Path.{◌≡◌, refl, ◌∙◌, ap}
 use Rattle.laws.specs.Memory.{put}
@@ -10,9 +10,9 @@ use Rattle.records.specs.Records.{record_of, moved}
 use Rattle.reference.specs.State.{Machine}
 use Rattle.reference.specs.Step.{Step, plan, deliver}
 use Rattle.reference.specs.Take.{sent, kept}
-use Rattle.encoding.specs.Places.{planned_place, due_place, view_place, channel_place}
+use Rattle.encoding.specs.Places.{due_place, view_place, channel_place}
 use Rattle.encoding.specs.Calls.{machine_of}
-use Rattle.encoding.specs.InnerSteps.{ticked, popped, delivered_in, sent_to, news_in, planned_in, best_in, effect_in, after_in, step_answer_in}
+use Rattle.encoding.specs.InnerSteps.{ticked, popped, delivered_in, news_in, planned_in, best_in, effect_in, after_in, step_answer_in}
 use Rattle.steps.specs.declared.Taken.{Taken}
 use Rattle.steps.specs.declared.Taken.TheVariants.{Delivered}
 use Rattle.steps.specs.Answers.{taken_meant}
@@ -28,16 +28,6 @@ plan_did f ws m i rec m' news x same stored new answer =
       answers = answer ∙ rw (new, same) refl;
       stores = stored ∙ ap (planned_in f.carriers m i) same;
     }
-
-pub news_stored : (n i : ℕ) (m rec m₁ m₂ : List ℕ) → m₁ ≡ put m (planned_place i) (1 ∷ (0 ∷ rec)) → news_in m i rec ≡ true →
-    m₂ ≡ sent_to n i rec m₁ n → m₂ ≡ planned_in n m i rec
-unfolding planned_in
-news_stored n i m rec m₁ m₂ stored e g = g ∙ rw (e, stored) refl
-
-pub old_stored : (n i : ℕ) (m rec m₁ : List ℕ) → m₁ ≡ put m (planned_place i) (1 ∷ (0 ∷ rec)) → news_in m i rec ≡ false →
-    m₁ ≡ planned_in n m i rec
-unfolding planned_in
-old_stored n i m rec m₁ stored e = rw (e, stored) refl
 
 pub delivery_stored : (n j i x channel p : ℕ) (m m₁ m₂ m₃ : List ℕ) → p ≡ channel + 1 + 65 * 0 → x ≡ view_place n i j →
     channel ≡ channel_place n i j →

@@ -23,47 +23,51 @@ use reporting::put_bytes;
 // The length of the longest text: eight lines of 45 bytes, and 32 rows of 33.
 pub const TEXT_LENGTH: usize = 1416;
 
+// An accepted floor, its walls, and the answers of its carriers as they lie in memory.
+#[derive(Clone, Copy)]
+struct Plan<'a> {
+    floor: Floor,
+    walls: &'a [u16],
+    own: &'a [u16; TEAM],
+    ghost accepted: { check_of floor walls.now ≡ passed },
+    ghost planned: { PlanIn floor walls.now own.now },
+}
+
 // Puts the line of the carrier with i above it, if it has no route; the column behind it is returned.
-fn put_carrier(
-    f: Floor,
-    walls: &[u16],
-    own: [u16; TEAM],
-    i: u16,
-    out: &mut [u8],
-    at: usize,
-) -> usize
-    requires { (check_of f walls.now ≡ passed) × (i < f.carriers) × PlanIn f walls.now own × (at + 45 ≤ length out.old) }
-    ensures { PutAt (carrier_text f walls.now i) out.old at out.new result }
+fn put_carrier(plan: &Plan, i: u16, out: &mut [u8], at: usize) -> usize
+    requires { (i < plan.now.floor.carriers) × (at + 45 ≤ length out.old) }
+    ensures { PutAt (carrier_text plan.now.floor plan.now.walls.now i) out.old at out.new result }
 {
     let tag = SIZE * i as usize;
-    if own[tag] == 2 {
+    // Kept: a record's tag is a number in the memory that C reads; 2 is that of a route.
+    if plan.own[tag] == 2 {
         return at;
     }
-    let set = blockers::set_for(f, walls, own, i);
+    let set = blockers::set_for(plan.floor, plan.walls, *plan.own, i);
     lines::put_shut(i as usize, set, out, at)
 }
 
 // Puts the lines of all stranded carriers; the column behind them is returned.
-fn put_carriers(f: Floor, walls: &[u16], own: [u16; TEAM], out: &mut [u8]) -> usize
-    requires { (check_of f walls.now ≡ passed) × PlanIn f walls.now own × (360 ≤ length out.old) }
-    ensures { PutAt (lines_of (carrier_text f walls.now) f.carriers) out.old 0
+fn put_carriers(plan: &Plan, out: &mut [u8]) -> usize
+    requires { 360 ≤ length out.old }
+    ensures { PutAt (lines_of (carrier_text plan.now.floor plan.now.walls.now) plan.now.floor.carriers) out.old 0
         out.new result }
 {
-    let n = f.carriers;
+    let n = plan.floor.carriers;
     let mut at: usize = 0;
     for i in 0..n {
-        at = put_carrier(f, walls, own, i, out, at);
+        at = put_carrier(plan, i, out, at);
     }
     at
 }
 
 // Puts these lines, or that nobody is stranded; the column behind them is returned.
-fn put_lines(f: Floor, walls: &[u16], own: [u16; TEAM], out: &mut [u8]) -> usize
-    requires { (check_of f walls.now ≡ passed) × PlanIn f walls.now own × (360 ≤ length out.old) }
-    ensures { PutAt (or_nobody (lines_of (carrier_text f walls.now) f.carriers))
+fn put_lines(plan: &Plan, out: &mut [u8]) -> usize
+    requires { 360 ≤ length out.old }
+    ensures { PutAt (or_nobody (lines_of (carrier_text plan.now.floor plan.now.walls.now) plan.now.floor.carriers))
         out.old 0 out.new result }
 {
-    let n = put_carriers(f, walls, own, out);
+    let n = put_carriers(plan, out);
     if n == 0 {
         return put_bytes(out, 0, b"no carrier is stranded\n");
     }
@@ -75,6 +79,7 @@ fn place(f: Floor, own: [u16; TEAM], k: usize) -> u16
     requires { (k < 8) × (length own ≡ 520) }
     ensures { result ≡ stranded_cell f own k }
 {
+    // Kept: a record's tag is a number in the memory that C reads; 2 is that of a route.
     if own[SIZE * k] == 2 {
         return 65535;
     }
@@ -100,7 +105,12 @@ fn put_stranded(f: Floor, walls: &[u16], out: &mut [u8]) -> usize
     ensures { TextPut (stranded_text f walls.now) out.old out.new result }
 {
     let own = blockers::plan_own(f, walls);
-    let n = put_lines(f, walls, own, out);
+    let plan = Plan {
+        floor: f,
+        walls,
+        own: &own,
+    };
+    let n = put_lines(&plan, out);
     n + drawing::put_floor(f, walls, places(f, own), &mut out[n..])
 }
 

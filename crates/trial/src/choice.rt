@@ -38,6 +38,7 @@ impl TryFrom<u16> for Order {
 }
 
 // Whether the step at a place is open.
+#[tactic(auto, unfolding(crate::specs::Inner::opens_in))]
 fn open_at(f: Floor, m: &[u16], p: usize) -> bool
     requires p_bound { p < places f.carriers }
     requires carriers_bound { (f.carriers ≤ 8) × (state_size f.carriers ≤ length m.now) }

@@ -12,7 +12,7 @@ ghost use Rattle.floor.specs.Answers.{verdict_of};
 ghost use Rattle.trial.specs.Inner.{room_verdict};
 ghost use Rattle.trial.specs.Entry.{tried_outcome, trial_outcome, state_tried, report_tried};
 
-pub use choice::Order;
+use choice::Order;
 use floor::{Floor, Refusal};
 pub use places::{answer_number, count, number_of, step_at};
 pub use play::most_steps;

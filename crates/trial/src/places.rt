@@ -10,6 +10,7 @@ use floor::Floor;
 use steps::{Step, Taken};
 
 // How many steps n carriers have.
+#[tactic(auto, using(orders::proofs::PlaceLaws::places_half, crate::proofs::StepLaws::count_fits, crate::proofs::StepLaws::count_most))]
 pub fn count(n: usize) -> usize
     requires { n ≤ 8 }
     ensures { (result ≡ places n) × (result ≤ 36) }

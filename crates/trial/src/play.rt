@@ -26,6 +26,7 @@ pub fn most_steps(n: usize) -> usize
 }
 
 // Line t of the report.
+#[tactic(auto, using(state::proofs::CountLaws::put_two))]
 fn write_line(report: &mut [u16], t: usize, number: u16, answer: u16)
     requires { (t < 512) × (2 * t + 2 ≤ length report.old) }
     ensures { report.new ≡ put report.old (2 * t) (number ∷ (answer ∷ [])) }

@@ -46,6 +46,7 @@ fn first_digit(n: u32) -> usize
 }
 
 // Puts a number below 100,000 in decimal digits; the column behind it is returned.
+// Kept with its column: it is the function of claim K6 (docs/CLAIMS.md), and its contract tells the bytes of the memory.
 pub fn put_decimal(out: &mut [u8], at: usize, n: u32) -> usize
     requires { at + 5 ≤ length out.old }
     ensures { PutAt (decimal n) out.old at out.new result }

@@ -8,10 +8,12 @@ pub returns-then-f-t : goal.returns-then-f-t
 returns-then-f-t c =
     beat_above _ _ _ _ c.if-f-t.true
 
+pub invariant_of-scene : goal.invariant_of-scene
+invariant_of-scene c = record { drawable = record { checked = c.requires.0; long = c.plan_own-own.ensures.long } }
+
 pub put_frame-requires : goal.put_frame-requires
 put_frame-requires c =
     let b = (check_tells _ _ c.requires.0).bounds in (
-      record { checked = c.requires.0; long = c.plan_own-own.ensures.long },
       omega (arith, b.horizon.1, c.if-f-t.false),
       omega (arith, c.requires.1),
     )

@@ -9,4 +9,4 @@ use Rattle.frames.proofs.put_beats.Given as goal
 
 abbrev pub invariant-loop-t : goal.invariant-loop-t
 invariant-loop-t l =
-    (l.t ≤ l.n) × PutAt (lines_of (λ (u : ℕ). (10 ∷ []) ++ frame_of l.f l.walls (answer_in l.own) u) l.t) l.initial.out l.at l.out l.end
+    (l.t ≤ l.n) × PutAt (lines_of (λ (u : ℕ). (10 ∷ []) ++ frame_of l.scene.floor l.scene.walls.now (answer_in l.scene.own.now) u) l.t) l.initial.out l.at l.out l.end

@@ -6,18 +6,15 @@ use Rattle.meeting.proofs.put_drawing.Goals as goal
 
 pub put_beat-requires : goal.put_beat-requires
 put_beat-requires c =
-    let e = c.requires.early in
-    (c.requires.walls_value.0, c.requires.walls_value.1, same_early e.0 (found_is c.in-Some-SameCell.is (rw c.in-Some-SameCell.is at c.in-Some-SameCell.field-0-is)), e.1)
+    (same_early c.requires.early.0 (found_is c.in-Some-SameCell.is (rw c.in-Some-SameCell.is at c.in-Some-SameCell.field-0-is)), c.requires.early.1)
 
 pub put_beat-requires-in-Some-ChangeOfPlaces : goal.put_beat-requires-in-Some-ChangeOfPlaces
 put_beat-requires-in-Some-ChangeOfPlaces c =
-    let e = c.requires.early in
-    (c.requires.walls_value.0, c.requires.walls_value.1, change_early e.0 (found_is c.in-Some-ChangeOfPlaces.is (rw c.in-Some-ChangeOfPlaces.is at c.in-Some-ChangeOfPlaces.field-0-is)), e.1)
+    (change_early c.requires.early.0 (found_is c.in-Some-ChangeOfPlaces.is (rw c.in-Some-ChangeOfPlaces.is at c.in-Some-ChangeOfPlaces.field-0-is)), c.requires.early.1)
 
 pub put_beat-requires-in-Some-Following : goal.put_beat-requires-in-Some-Following
 put_beat-requires-in-Some-Following c =
-    let e = c.requires.early in
-    (c.requires.walls_value.0, c.requires.walls_value.1, following_early e.0 (found_is c.in-Some-Following.is (rw c.in-Some-Following.is at c.in-Some-Following.field-0-is)), e.1)
+    (following_early c.requires.early.0 (found_is c.in-Some-Following.is (rw c.in-Some-Following.is at c.in-Some-Following.field-0-is)), c.requires.early.1)
 
 pub returns-in-None : goal.returns-in-None
 unfolding conflict_told conflict_drawing

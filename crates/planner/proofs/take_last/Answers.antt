@@ -6,11 +6,6 @@ use Rattle.layers.specs.Table.{search_grid_of}
 use Rattle.layers.proofs.GridLaws.{scene_grid}
 use Rattle.planner.proofs.take_last.Goals as goal
 
-pub returns-then-i-eq0 : goal.returns-then-i-eq0
-returns-then-i-eq0 c =
-    let e : c.args.i - 1 ≡ c.args.i = omega arith in
-    λ free old. rw e at old
-
 pub take_one-requires : goal.take_one-requires
 unfolding search_grid_of
 take_one-requires c =

@@ -5,4 +5,4 @@ use Rattle.stranded.specs.Text.{carrier_text}
 use Rattle.stranded.proofs.put_carriers.Given as goal
 
 abbrev pub invariant-loop-i : goal.invariant-loop-i
-invariant-loop-i l = (l.i ≤ l.n) × PutAt (lines_of (carrier_text l.f l.walls) l.i) l.initial.out 0 l.out l.at
+invariant-loop-i l = (l.i ≤ l.n) × PutAt (lines_of (carrier_text l.plan.floor l.plan.walls.now) l.i) l.initial.out 0 l.out l.at

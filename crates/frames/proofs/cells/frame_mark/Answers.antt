@@ -1,4 +1,6 @@
 -- `frames::cells::frame_mark` meets its contract: by the number of carriers there.
+use borrow.Author.Rules.{rules}
+use Rattle.frames.specs.Inner.{Drawable}
 use mathlib.Core.Path.{sym, ◌∙◌}
 use Rattle.floor.proofs.LimitsLaws.{check_tells}
 use Rattle.maps.proofs.MarkLaws.{one_none, one_only, one_several}
@@ -8,11 +10,13 @@ use Rattle.frames.proofs.cells.frame_mark.Goals as goal
 
 pub put_carriers-n-requires : goal.put_carriers-n-requires
 put_carriers-n-requires c =
-    ((check_tells _ _ c.requires.0.checked).bounds.carriers.1, c.requires.0.long, c.requires.1, omega arith)
+    let d : Drawable c.args.scene.now.floor c.args.scene.now.walls.now c.args.scene.now.own.now = search rules in
+    ((check_tells _ _ d.checked).bounds.carriers.1, d.long, c.requires, omega arith)
 
 pub still_mark-requires : goal.still_mark-requires
 still_mark-requires c =
-    c.requires.0.checked
+    let d : Drawable c.args.scene.now.floor c.args.scene.now.walls.now c.args.scene.now.own.now = search rules in
+    d.checked
 
 pub returns-in-0 : goal.returns-in-0
 unfolding frame_mark

@@ -9,4 +9,4 @@ use Rattle.frames.proofs.cells.put_cells.Given as goal
 
 abbrev pub invariant-loop-c : goal.invariant-loop-c
 invariant-loop-c l =
-    (l.c ≤ 1024) × PutAt (lines_of (λ (d : ℕ). frame_mark l.f l.walls (answer_in l.own) l.t d ∷ []) l.c) l.initial.out 0 l.out l.at
+    (l.c ≤ 1024) × PutAt (lines_of (λ (d : ℕ). frame_mark l.scene.floor l.scene.walls.now (answer_in l.scene.own.now) l.t d ∷ []) l.c) l.initial.out 0 l.out l.at

@@ -2,33 +2,19 @@
 -- of the grid's rows. Assumes nothing.
 use Prim.Native.Nat.{◌*◌, ◌≤◌}
 use native.Mathlib.Omega.{arith}
-use mathlib.Core.Path.{◌≡◌, ap, ◌∙◌}
-use borrow.Author.Rules.{rules}
-use lib.ListN.{length}
-use Rattle.bitrows.proofs.RowsLaws.{length_at}
 use Rattle.layers.proofs.GridLaws.{grid_low}
 use Rattle.search.proofs.GroundLaws.{both_out}
 use Rattle.search.proofs.RowsFree.{grid_walls, free_rows_made}
 use Rattle.search.proofs.ground.free_rows.Goals as goal
-use Rattle.search.proofs.ground.free_rows.Goals.{After-drop_at, Start}
+use Rattle.search.proofs.ground.free_rows.Goals.{Start}
 
--- The grid's rows have room for its cells, and stay 32.
+-- The grid's rows have room for its cells.
 low : (c : Start) → c.args.f.width * c.args.f.height ≤ 32 * c.args.f.width
 low c = grid_low c.args.f.width c.args.f.height c.requires.le_width.2
-
-still_long : (c : After-drop_at) → length c.drop_at.new.rows ≡ 32
-still_long c =
-    ap length c.drop_at.ensures ∙ length_at _ _ _ _ _ ∙ c.loop-j.invariant.long
 
 pub loop-j-init : goal.loop-j-init
 loop-j-init c =
     let p = c.requires.le_width in grid_walls _ _ p.2 _ _ _ _ (omega arith) p.0 c.grid_rows-rows.ensures.0
-
-pub drop_at-requires-in-loop-j : goal.drop_at-requires-in-loop-j
-drop_at-requires-in-loop-j c = record {
-  le_w = (search rules, search rules, low (goal.at.drop_at-requires-in-loop-j c).Start, c.scale-scale.ensures);
-  i_in_bounds = omega (arith, still_long (goal.at.drop_at-requires-in-loop-j c).After-drop_at);
-}
 
 pub loop-j-preserved : goal.loop-j-preserved
 loop-j-preserved c =
