@@ -50,7 +50,7 @@ fn go(setup: &[u16], m: &mut [u16], seed: usize) -> End {
 // One drawn order of a floor with drawn starts, docks and walls.
 fn draw_one(tally: Tally, setup: &[u16], m: &mut [u16], cells: usize, seed: usize) -> Tally {
     let mut drawn = setup::cleared();
-    memory::copy(setup, &mut drawn[..201]);
+    memory::copy(setup, memory::front(&mut drawn, 201));
     draws::draw_floor(&mut drawn, cells, seed);
     let end = go(&drawn, m, seed);
     tally.noted(&drawn, m, end)
