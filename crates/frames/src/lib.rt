@@ -113,7 +113,7 @@ pub fn print(text: &[u8], out: &mut [u8; TEXT_LENGTH]) -> usize
             let k = f.walls as usize;
             put_whole(f, &walls[..k], out)
         }
-        Err(x) => printing::put_refusal(x, out),
+        Err(x) => printing::put_refusal(x.number(), x.place, out),
     }
 }
 
@@ -129,6 +129,6 @@ pub fn print_beat(text: &[u8], t: u16, out: &mut [u8; BEAT_LENGTH]) -> usize
             let k = f.walls as usize;
             put_beat(f, &walls[..k], t, out)
         }
-        Err(x) => printing::put_refusal(x, out),
+        Err(x) => printing::put_refusal(x.number(), x.place, out),
     }
 }
