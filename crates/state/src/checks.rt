@@ -6,6 +6,7 @@ ghost use Rattle.encoding.specs.Valid.{used_by, cells_valid, record_valid, carri
 ghost use Rattle.encoding.specs.Valid.{channel_valid, pair_valid, count_valid, valid};
 ghost use Rattle.state.specs.Numbers.{Largest};
 
+use crate::lent::State;
 use crate::places::{
     PLACES, answer_place, channel_place, due_place, message_place, planned_place, view_place,
 };
@@ -94,37 +95,36 @@ fn channel_valid(f: Floor, m: &[u16], channel: usize) -> bool
 
 // The view that carrier i has of carrier j, and the channel between them.
 #[tactic(auto, unfolding(encoding::specs::Valid::pair_valid))]
-fn pair_valid(f: Floor, m: &[u16], i: usize, j: usize) -> bool
-    requires { (j < i) × (i < f.carriers) × (f.carriers ≤ 8) × (state_size f.carriers ≤ length m.now) }
-    ensures { result ≡ pair_valid f m.now i j }
+fn pair_valid(s: &State, i: usize, j: usize) -> bool
+    requires { (j < i) × (i < s.now.floor.carriers) }
+    ensures { result ≡ pair_valid s.now.floor s.now.memory.now i j }
 {
-    let n = f.carriers as usize;
-    record_valid(f, m, view_place(n, i, j), 0, 2) && channel_valid(f, m, channel_place(n, i, j))
+    let n = s.floor.carriers as usize;
+    record_valid(s.floor, s.memory, view_place(n, i, j), 0, 2)
+        && channel_valid(s.floor, s.memory, channel_place(n, i, j))
 }
 
 // The pairs of receiver i.
-fn receiver_valid(f: Floor, m: &[u16], i: usize) -> bool
-    requires { (i < f.carriers) × (f.carriers ≤ 8) × (state_size f.carriers ≤ length m.now) }
-    ensures { result ≡ each i (pair_valid f m.now i) }
+fn receiver_valid(s: &State, i: usize) -> bool
+    requires { i < s.now.floor.carriers }
+    ensures { result ≡ each i (pair_valid s.now.floor s.now.memory.now i) }
 {
-    (0..i).all(|j| pair_valid(f, m, i, j))
+    (0..i).all(|j| pair_valid(s, i, j))
 }
 
 // All pairs.
-fn pairs_valid(f: Floor, m: &[u16]) -> bool
-    requires { (f.carriers ≤ 8) × (state_size f.carriers ≤ length m.now) }
-    ensures { result ≡ each f.carriers (λ i. each i (pair_valid f m.now i)) }
+fn pairs_valid(s: &State) -> bool
+    ensures { result ≡ each s.now.floor.carriers (λ i. each i (pair_valid s.now.floor s.now.memory.now i)) }
 {
-    (0..f.carriers as usize).all(|i| receiver_valid(f, m, i))
+    (0..s.floor.carriers as usize).all(|i| receiver_valid(s, i))
 }
 
 // All carriers.
 #[tactic(auto, unfolding(encoding::specs::Places::state_size))]
-fn carriers_valid(f: Floor, m: &[u16]) -> bool
-    requires { (f.carriers ≤ 8) × (state_size f.carriers ≤ length m.now) }
-    ensures { result ≡ each f.carriers (carrier_valid f m.now) }
+fn carriers_valid(s: &State) -> bool
+    ensures { result ≡ each s.now.floor.carriers (carrier_valid s.now.floor s.now.memory.now) }
 {
-    (0..f.carriers as usize).all(|i| carrier_valid(f, m, i))
+    (0..s.floor.carriers as usize).all(|i| carrier_valid(s.floor, s.memory, i))
 }
 
 // Whether the taken count is within its bounds.
@@ -142,5 +142,9 @@ pub fn valid(f: Floor, m: &[u16]) -> bool
     requires { (f.carriers ≤ 8) × (state_size f.carriers ≤ length m.now) }
     ensures { result ≡ valid f m.now }
 {
-    count_valid(m) && carriers_valid(f, m) && pairs_valid(f, m)
+    let s = State {
+        floor: f,
+        memory: m,
+    };
+    count_valid(m) && carriers_valid(&s) && pairs_valid(&s)
 }
