@@ -1,4 +1,5 @@
-// Which steps are open in a state, what a step waits for, and whether any is open.
+// Which steps are open in a state, what a step waits for, and whether any is open. `is_open`, `waits` and `is_silent` take the floor
+// and the memory apart, not as a `State`: docs/ names them, so they ask what they asked before.
 ghost use Rattle.std.specs.Prelude.{◌≡◌, true, ◌+◌, ◌≤◌, ◌<◌, eqb, length, get_or};
 ghost use Rattle.laws.specs.Verdict.{demand, demand_each, each};
 ghost use Rattle.floor.specs.Answers.{verdict_of};
