@@ -1,5 +1,5 @@
-// The reader of a sheet: the text together with its next column (document 01, 'The sheet', and its named form). It goes along the sheet from
-// line to line, each beginning at the column that the one before it reached.
+// The reader of a sheet: the text together with its next column (document 01, 'The sheet', and its named form). It goes along the sheet
+// from line to line, each beginning at the column that the one before it reached.
 ghost use Rattle.std.specs.Prelude.{◌≡◌, ◌+◌, ◌*◌, ◌≤◌, ℕ};
 ghost use Rattle.laws.specs.Verdict.{Verdict, ◌gives◌};
 ghost use Rattle.fields.specs.Form.{line_form, counted_form, past_counted, past_pair, column_past, lines_form};

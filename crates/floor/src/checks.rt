@@ -175,26 +175,13 @@ fn rising(f: Floor, walls: &[u16]) -> Result<(), Refusal>
     )
 }
 
-// Whether c is one of the first k walls, which rise: a binary search.
+// Whether c is one of the first k walls, which rise.
 pub fn is_wall(walls: &[u16], k: usize, c: u16) -> bool
     requires k_in_bounds { k ≤ length walls.now }
     requires strictly_rising { StrictlyRising walls.now k }
     ensures { result ≡ among walls.now k c }
 {
-    let mut low: usize = 0;
-    let mut high = k;
-    while low < high {
-        let middle = low + (high - low) / 2;
-        if walls[middle] < c {
-            low = middle + 1;
-        } else {
-            high = middle;
-        }
-    }
-    if k <= low {
-        return false;
-    }
-    walls[low] == c
+    walls[..k].binary_search(&c).is_ok()
 }
 
 // Whether no dock of carrier i is a wall.

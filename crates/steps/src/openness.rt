@@ -56,7 +56,7 @@ fn delivery_open(s: &State, j: usize, i: usize) -> bool
     j < i && i < n && s.memory[state::channel_place(n, i, j)] != 0
 }
 
-// Whether a step is open.
+// Whether a step is open. Kept, alike in form with `waits`: a `match` on the two steps.
 #[tactic(auto, unfolding(crate::specs::Answers::step_meant))]
 pub fn is_open(f: Floor, m: &[u16], x: Step) -> bool
     requires { (f.carriers ≤ 8) × (state_size f.carriers ≤ length m.now) }
