@@ -1,16 +1,16 @@
 // The answers of a floor's carriers in memory, 65 numbers each, read for any place: a tag, 2 for a route, and the cells at the beats. The
 // cell at beat 0 is the start, also of a carrier without a route.
-ghost use Rattle.std.specs.Prelude.{◌≤◌, ◌<◌};
+ghost use Rattle.std.specs.Prelude.{◌≤◌};
 
 use crate::page::Page;
 
-// A carrier of a picture: its place among the eight of a floor, counted from 0, and the answers of all.
+// A carrier of a picture: its place, counted from 0, and the answers of all. A floor has eight at most; place 8 is the one behind them.
 #[derive(Clone, Copy)]
 pub struct Carrier<'a> {
     pub page: Page,
     pub answers: &'a [u16],
     pub place: usize,
-    ghost one_of_eight: { place < 8 },
+    ghost at_most_eight: { place ≤ 8 },
 }
 
 impl Carrier<'_> {

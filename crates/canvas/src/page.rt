@@ -1,5 +1,5 @@
 // Where things stand on the page, in units of the picture: the grid with its labels on the left, the legend on the right of it.
-ghost use Rattle.std.specs.Prelude.{◌≤◌};
+ghost use Rattle.std.specs.Prelude.{◌≡◌, ◌≤◌, ◌||◌, nat_lt};
 
 use floor::Floor;
 
@@ -14,6 +14,14 @@ pub struct Page {
 }
 
 impl From<Floor> for Page {
+    ghost from_gives = { λ f p. p ≡ record {
+      small = nat_lt 16 f.width || nat_lt 16 f.height;
+      columns = f.width;
+      rows = f.height;
+      horizon = f.horizon;
+      carriers = f.carriers;
+    } };
+
     // The page of a floor.
     fn from(f: Floor) -> Page {
         Page {

@@ -4,9 +4,11 @@ use commands::answers::Answer;
 use testkit::fields::field;
 use testkit::memory::{at, narrow, put};
 
-// Whether an answer to a step or to a run is the one that the script numbers so: a refusal by its number and its place, the others from 31 on
-// with the number taken.
+// Whether an answer to a step or to a run is the one that the script numbers so: a refusal by its number and its place, the others from
+// 31 on with the number taken.
+// A script's kinds repeat from 45 on.
 fn is_numbered(came: Answer, kind: usize, number: usize) -> bool {
+    let kind = kind % 45;
     match came {
         Answer::Refused(r) => kind == usize::from(r.number()) && number == r.place,
         Answer::Silent(n) => kind == 31 && number == n,

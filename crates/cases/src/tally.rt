@@ -65,7 +65,7 @@ impl Tally {
     }
 
     // An order that came to silence with that number taken. What must be: the answers are both planners', no two of them in conflict, the
-    // taken count in memory is the number of steps that were answered as taken, that number is at most the ceiling, and the state is at rest.
+    // taken count in memory is the number of steps that were answered as taken, that number is at most the ceiling, and the state rests.
     fn silent(self, setup: &[u16], m: &[u16], taken: usize) -> Self {
         let n = wide_at(setup, 4);
         let most = machine::ceiling(n).unwrap_or(0);

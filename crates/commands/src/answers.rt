@@ -92,8 +92,8 @@ impl Answer {
         }
     }
 
-    // Shows its word, and what comes with it: a refusal's number and place, the number taken, the failing carrier, the most steps, the number
-    // of bytes, or the plain number.
+    // Shows its word, and what comes with it: a refusal's number and place, the number taken, the failing carrier, the most steps, the
+    // number of bytes, or the plain number.
     pub fn show<W: Write>(self, out: &mut W) -> io::Result<()> {
         show::text(out, self.word())?;
         match self {

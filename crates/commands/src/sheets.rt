@@ -13,8 +13,8 @@ fn written(f: Floor, walls: &[u16], n: usize, text: &[u8]) -> Answer {
     came.only_if(same(&page, text))
 }
 
-// A sheet is checked, and read into lent memory, which must answer alike. If it is refused, lent memory is as it was lent; if not, the floor
-// that was read is written again as the same bytes.
+// A sheet is checked, and read into lent memory, which must answer alike. If it is refused, lent memory is as it was lent; if not, the
+// floor that was read is written again as the same bytes.
 fn read(text: &[u8], m: &mut [u16]) -> Answer {
     let asked = checked(sheet::check(text, m.len()));
     match sheet::read(text, m) {

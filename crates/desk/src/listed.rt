@@ -76,9 +76,9 @@ fn print_refusal<W: Write, E: Write>(
     x: Refusal,
 ) -> Result<(), Failed> {
     let mut out = [0u8; TEXT];
-    match printing::print_refusal(x, &mut out) {
-        Ok(n) => write_front(writer, errors, &out, n),
-        Err(_) => Ok(()),
+    match printing::print_refusal(x.number(), x.place, &mut out) {
+        Some(n) => write_front(writer, errors, &out, n),
+        None => Ok(()),
     }
 }
 

@@ -36,7 +36,7 @@ fn put_trial(f: Floor, walls: &[u16], order: u16, seed: u32, out: &mut [u8]) -> 
     let mut report = [0; 1004];
     match trial::trial(f, &walls[..k], order, seed, &mut state, &mut report) {
         Ok(t) => put_played(f, &walls[..k], order, &report[..2 * t], out),
-        Err(x) => printing::put_refusal(x, out),
+        Err(x) => printing::put_refusal(x.number(), x.place, out),
     }
 }
 
@@ -49,6 +49,6 @@ pub fn print(text: &[u8], order: u16, seed: u32, out: &mut [u8; TEXT_LENGTH]) ->
     let mut walls = sheet::no_walls();
     match sheet::read(text, &mut walls) {
         Ok(f) => put_trial(f, &walls, order, seed, out),
-        Err(x) => printing::put_refusal(x, out),
+        Err(x) => printing::put_refusal(x.number(), x.place, out),
     }
 }

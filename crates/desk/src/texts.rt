@@ -1,5 +1,6 @@
 // What the commands but `runs` print, for the sheet or the map on standard input. The longest sheet has 11,732 bytes; of a longer input
 // the first 65,536 bytes hold the first extra byte.
+// Kept alike: what they share is `console::through`; each has its own contract, text and room.
 ghost use Rattle.std.specs.Prelude.{◌≡◌, ℕ, take, IfSome};
 ghost use Rattle.std.specs.Io.KnownBytes.{Appends};
 ghost use Rattle.laws.specs.Verdict.{refused};

@@ -8,7 +8,7 @@ use Rattle.laws.proofs.VerdictLaws.{then_both}
 use Rattle.fields.specs.Field.{number_at}
 use Rattle.fields.specs.Form.{counted_form, counted_length, past_counted, past_pair, column_past, lines_form, line_form}
 use Rattle.std.specs.Prelude.{Ok}
-use Rattle.fields.specs.Reached.{reached_of}
+use Rattle.fields.specs.Reached.{column_told}
 use Rattle.fields.proofs.ReachedLaws.{reaches}
 use Rattle.fields.proofs.CountLaws.{count_tells}
 
@@ -23,13 +23,13 @@ counted_tells text at h =
     count_tells text (at + 10) c.0
 
 -- A counted line that was read is at most 56 bytes long, and a line of two fields 11.
-pub counted_near : (text : List ℕ) (at x : ℕ) → reached_of (Ok x) ≡ (counted_form text at gives past_counted text at) → x ≤ at + 56
+pub counted_near : (text : List ℕ) (at x : ℕ) → column_told (Ok x) ≡ (counted_form text at gives past_counted text at) → x ≤ at + 56
 unfolding past_counted counted_length
 counted_near text at x e =
     let r = reaches _ _ _ e in
     omega (arith, r.1, counted_tells text at r.0)
 
-pub pair_near : (z : Verdict) (at x : ℕ) → reached_of (Ok x) ≡ (z gives past_pair at) → x ≤ at + 11
+pub pair_near : (z : Verdict) (at x : ℕ) → column_told (Ok x) ≡ (z gives past_pair at) → x ≤ at + 11
 unfolding past_pair
 pair_near z at x e = omega (arith, (reaches _ _ _ e).1)
 

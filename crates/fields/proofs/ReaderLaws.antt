@@ -11,7 +11,7 @@ use Rattle.std.specs.Prelude.{Result, Ok, Err}
 use Rattle.std.specs.Result.{IsErrAnd}
 use Rattle.std.proofs.lemmas.Result.{err_from_is_err_and}
 use Rattle.floor.specs.Answers.{number_of}
-use Rattle.fields.specs.Reached.{reached_of}
+use Rattle.fields.specs.Reached.{column_told}
 use Rattle.fields.specs.Form.{column_past, lines_form}
 use Rattle.fields.proofs.ReachedLaws.{reaches, line_refused, arrives, refuses_so}
 
@@ -29,7 +29,7 @@ module _ (form : ℕ → Verdict) (past : ℕ → ℕ) (at n : ℕ) where
 
   module _ (i column : ℕ) (h : Along form past at n i column) where
     -- Past a line in good form it is one line further.
-    pub along_more : (c : ℕ) → i < n → reached_of (Ok c) ≡ (form column gives past column) → Along form past at n (i + 1) c
+    pub along_more : (c : ℕ) → i < n → column_told (Ok c) ≡ (form column gives past column) → Along form past at n (i + 1) c
     unfolding column_past lines_form
     along_more c l e =
         let r = reaches c (form column) (past column) e in
@@ -40,8 +40,8 @@ module _ (form : ℕ → Verdict) (past : ℕ → ℕ) (at n : ℕ) where
         }
 
     -- The refusal of a line is the answer.
-    pub along_stop : (y : Result ℕ Refusal) (x : Refusal) → i < n → reached_of (Err x) ≡ (form column gives past column)
-        → IsErrAnd y (λ d. d ≡ x) → reached_of y ≡ (lines_form form past at n gives column_past past at n)
+    pub along_stop : (y : Result ℕ Refusal) (x : Refusal) → i < n → column_told (Err x) ≡ (form column gives past column)
+        → IsErrAnd y (λ d. d ≡ x) → column_told y ≡ (lines_form form past at n gives column_past past at n)
     unfolding lines_form
     along_stop y x l e g =
         let r = line_refused x (form column) (past column) e in
@@ -54,7 +54,7 @@ module _ (form : ℕ → Verdict) (past : ℕ → ℕ) (at n : ℕ) where
         (refuses_so x (column_past past at n) refl)
 
     -- Past the last line the column is the answer.
-    pub along_end : n ≤ i → reached_of (Ok column) ≡ (lines_form form past at n gives column_past past at n)
+    pub along_end : n ≤ i → column_told (Ok column) ≡ (lines_form form past at n gives column_past past at n)
     along_end l =
         let last : i ≡ n = omega (arith, h.within, l) in
         let good = rw last at h.good in

@@ -3,7 +3,7 @@ ghost use Rattle.std.specs.Prelude.{◌≡◌, ◌+◌, ◌≤◌, ◌<◌, leng
 ghost use Rattle.floor.specs.Answers.{number_of};
 ghost use Rattle.laws.specs.Verdict.{◌gives◌};
 ghost use Rattle.fields.specs.Form.{field_form, newline_form, count_form, end_form};
-ghost use Rattle.fields.specs.Reached.{reached_of};
+ghost use Rattle.fields.specs.Reached.{column_told};
 
 use crate::field;
 use floor::{Reason, Refusal};
@@ -21,7 +21,7 @@ fn malformed(place: usize) -> Refusal
 // The field at a column; the column behind it.
 pub fn field_form(text: &[u8], at: usize) -> Result<usize, Refusal>
     requires { at ≤ 65536 }
-    ensures { reached_of result ≡ (field_form text.now at gives (at + 5)) }
+    ensures { column_told result ≡ (field_form text.now at gives (at + 5)) }
 {
     if text.len() < at + 5 {
         return Err(malformed(text.len()));
@@ -35,7 +35,7 @@ pub fn field_form(text: &[u8], at: usize) -> Result<usize, Refusal>
 // The field at a column, which counts 1 to 4; the column behind it.
 pub fn count_form(text: &[u8], at: usize) -> Result<usize, Refusal>
     requires { at ≤ 65536 }
-    ensures { reached_of result ≡ (count_form text.now at gives (at + 5)) }
+    ensures { column_told result ≡ (count_form text.now at gives (at + 5)) }
 {
     field_form(text, at)?;
     let x = field::number(text, at);
@@ -48,7 +48,7 @@ pub fn count_form(text: &[u8], at: usize) -> Result<usize, Refusal>
 // The newline at a column; the column behind it.
 pub fn newline_form(text: &[u8], at: usize) -> Result<usize, Refusal>
     requires { at ≤ 65536 }
-    ensures { reached_of result ≡ (newline_form text.now at gives (at + 1)) }
+    ensures { column_told result ≡ (newline_form text.now at gives (at + 1)) }
 {
     if text.len() <= at {
         return Err(malformed(text.len()));
@@ -61,7 +61,7 @@ pub fn newline_form(text: &[u8], at: usize) -> Result<usize, Refusal>
 
 // Nothing follows the last line.
 pub fn end_form(text: &[u8], at: usize) -> Result<usize, Refusal>
-    ensures { reached_of result ≡ (end_form text.now at gives at) }
+    ensures { column_told result ≡ (end_form text.now at gives at) }
 {
     if at < text.len() {
         return Err(malformed(at));

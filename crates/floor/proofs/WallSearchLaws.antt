@@ -11,12 +11,18 @@ use borrow.Author.Count.{below_more}
 use borrow.Author.Tests.{eqb-true, eqb-false}
 use lib.ListN.{get_or}
 use lib.Dec.{eqb}
+use Rattle.std.specs.Prelude.{Result, Ok, Err, take, length, is_ok, MatchResult}
+use Rattle.std.specs.List.Sorted.{IsBinarySearchResult}
+use Rattle.std.proofs.lemmas.List.{length-take-le, get_or-take}
+use Rattle.std.proofs.lemmas.List.Sorted.{searched}
+use Rattle.std.specs.Ordering.{nat_cmp}
 use Rattle.floor.specs.declared.Floor.{Floor}
 use Rattle.laws.specs.Verdict.{passed, All}
 use Rattle.floor.specs.Checks.{among, rising_of}
 use Rattle.floor.specs.Accepted.{Rises, StrictlyRising}
 use Rattle.laws.proofs.EachLaws.{each_passed}
 use Rattle.floor.proofs.AmongLaws.{among_found, absent_all}
+use Rattle.laws.proofs.Tests.{lt_or_le}
 use Rattle.floor.proofs.CheckMeans.{rises_means}
 
 -- Where each number is above the one before it, each is above all before it.
@@ -34,58 +40,33 @@ pub passed_rising : (f : Floor) (ws : List ℕ) → rising_of f ws ≡ passed �
 unfolding rising_of
 passed_rising f ws h = rises_strictly ws f.walls (each_passed 4 _ _ _ (rises_means ws) _ h)
 
--- What a search for c among the first k numbers knows: those before low are below c, and those from high on are not.
-pub record Bracket (xs : List ℕ) (k c low high : ℕ) : Type 0 where
-  pub ordered : low ≤ high
-  pub within : high ≤ k
-  pub below : All (λ (i : ℕ). get_or xs i 0 < c) low
-  pub above : (i : ℕ) → high ≤ i → i < k → c ≤ get_or xs i 0
+-- The first k numbers of a list that rise strictly rise.
+rising_taken : (ws : List ℕ) (k : ℕ) → StrictlyRising ws k → (i j : ℕ) → i ≤ j → j < k → get_or (take k ws) i 0 ≤ get_or (take k ws) j 0
+rising_taken ws k s i j a l =
+    let e = get_or-take k ws i 0 (omega (arith, a, l)) in
+    let d = get_or-take k ws j 0 l in
+    rw (e, d) (⊎_elim (λ (q : i ≡ j). rw q (omega arith)) (λ (q : i < j). omega (arith, s i j q l)) (eq-or-lt_of_le a))
 
--- At its start it knows nothing of any number.
-pub bracket_start : (xs : List ℕ) (k c : ℕ) → Bracket xs k c 0 k
-bracket_start xs k c = record {
-  ordered = omega arith;
-  within = omega arith;
-  below = λ i l. absurd (omega arith);
-  above = λ i a l. absurd (omega arith);
-}
+-- What is found among the first k numbers is among them, and what is not is between two that stand side by side.
+search_found : (ws : List ℕ) (k c : ℕ) (r : Result ℕ ℕ) → length (take k ws) ≡ k →
+    MatchResult r (λ i. (i < length (take k ws)) × (get_or (take k ws) i 0 ≡ c))
+    (λ i. (i ≤ length (take k ws)) × ((j : ℕ) → j < i → get_or (take k ws) j 0 < c)
+    × ((j : ℕ) → i ≤ j → j < length (take k ws) → c < get_or (take k ws) j 0)) → is_ok r ≡ among ws k c
+search_found ws k c (Ok i) long b =
+    let l = rw long at b.0 in
+    sym (among_found ws c i k l (rw (get_or-take k ws i 0 l) at b.1))
+search_found ws k c (Err i) long b =
+    sym (absent_all ws c k (λ j l e.
+    ⊎_elim
+    (λ (q : j < i). omega (arith, rw (get_or-take k ws j 0 l) at (b.1 j q), e))
+    (λ (q : i ≤ j). omega (arith, rw (get_or-take k ws j 0 l) at (b.2 j q (rw long l)), e))
+    (lt_or_le j i)))
 
--- Where low has come to k, c is none of the numbers.
-pub bracket_none : {xs : List ℕ} {k c low high : ℕ} → Bracket xs k c low high → k ≤ low → false ≡ among xs k c
-bracket_none {xs} {k} {c} b l = sym (absent_all xs c k (λ i q e. omega (arith, b.below i (omega arith))))
-
-module _ {xs : List ℕ} {p c low high : ℕ} (s : StrictlyRising xs p) (b : Bracket xs p c low high) where
-  -- Where the number at k is below c, so are all before it.
-  pub bracket_up : (k : ℕ) → k < high → get_or xs k 0 < c → Bracket xs p c (k + 1) high
-  bracket_up k l h = record {
-    ordered = omega arith;
-    within = b.within;
-    below = below_more (λ (i : ℕ). get_or xs i 0 < c) k (λ i q. omega (arith, h, s i k q (omega arith))) h;
-    above = b.above;
-  }
-
-  -- Where the number at k is not below c, neither is any after it.
-  pub bracket_down : (k : ℕ) → low ≤ k → k < high → c ≤ get_or xs k 0 → Bracket xs p c low k
-  bracket_down k a l h = record {
-    ordered = a;
-    within = omega arith;
-    below = b.below;
-    above = λ i q u. ⊎_elim (λ (e : k ≡ i). rw (← e) h) (λ (v : k < i). omega (arith, h, s k i v u)) (eq-or-lt_of_le q);
-  }
-
-  module _ (met : high ≤ low) (l : low < p) where
-    -- Where low and high have met, only the number there can be c.
-    only_met : (get_or xs low 0 ≡ c → ⊥) → among xs p c ≡ false
-    only_met n = absent_all xs c p (λ i q e.
-        let before : i < low → ⊥ = λ v. omega (arith, b.below i v) in
-        let after : low < i → ⊥ = λ v. omega (arith, s low i v q, b.above low met l) in
-        let here : low ≡ i → ⊥ = λ v. n (rw v e) in
-        omega arith)
-
-    -- So c is among the numbers exactly if it is the one there.
-    pub bracket_met : eqb (get_or xs low 0) c ≡ among xs p c
-    bracket_met = by_test (eqb (get_or xs low 0) c) refl
-      where
-        by_test : (x : Bool) → eqb (get_or xs low 0) c ≡ x → x ≡ among xs p c
-        by_test true h = sym (among_found xs c low p l (eqb-true _ _ h))
-        by_test false h = sym (only_met (eqb-false _ _ h))
+-- What the library's search says of c in the first k numbers, which rise: it is among them, or is not.
+pub search_says : (ws : List ℕ) (k c : ℕ) (r : Result ℕ ℕ) → k ≤ length ws → StrictlyRising ws k →
+    IsBinarySearchResult (λ (y : ℕ). nat_cmp y c) (take k ws) r → is_ok r ≡ among ws k c
+search_says ws k c r l s b =
+    let long : length (take k ws) ≡ k = length-take-le k ws l in
+    let rise : (i j : ℕ) → i ≤ j → j < length (take k ws) → get_or (take k ws) i 0 ≤ get_or (take k ws) j 0
+    = λ i j a d. rising_taken ws k s i j a (rw long at d) in
+    search_found ws k c r long (searched (take k ws) c r b rise)

@@ -1,14 +1,14 @@
 // The checks of a floor past its limits: each goes over its items in order and answers the first that fails.
 // Each has a `requires` for what the checks before it have shown.
-ghost use Rattle.std.specs.Prelude.{◌≡◌, true, not, ◌+◌, ◌≤◌, ◌<◌, length, get_or};
-ghost use Rattle.laws.specs.Verdict.{each};
+ghost use Rattle.std.specs.Prelude.{ℕ, Bool, ◌≡◌, true, not, ◌+◌, ◌≤◌, ◌<◌, length, get_or};
+ghost use Rattle.laws.specs.Verdict.{each, demand_each};
 ghost use Rattle.floor.specs.Accepted.{StrictlyRising, CountsWithin};
-ghost use Rattle.floor.specs.Answers.{verdict_of};
+ghost use Rattle.floor.specs.Answers.{number_of, verdict_of};
 ghost use Rattle.floor.specs.Checks.{count_of, docks_of, within, in_grid, docks_in_grid, carrier_in_grid, long_enough};
 ghost use Rattle.floor.specs.Checks.{docks_clear, clear_of_walls};
 ghost use Rattle.floor.specs.Checks.{carriers_of, walls_of, rising_of, clear_of, distinct_of, unrepeated_of, places_of};
 ghost use Rattle.floor.specs.Checks.{among, rises};
-ghost use Rattle.floor.specs.Checks.{unshared};
+ghost use Rattle.floor.specs.Checks.{unshared, unrepeated};
 
 use crate::{Floor, Reason, Refusal};
 
@@ -97,22 +97,42 @@ fn carrier_inside(f: Floor, i: usize) -> bool
     docks_inside(f, i)
 }
 
+// The items 0 to n − 1 in their order: each must pass a test, and the first that does not is refused with a reason, item i having the
+// place `first` + i.
+fn in_order<F: Fn(usize) -> bool>(
+    n: usize,
+    reason: Reason,
+    first: usize,
+    passes: F,
+) -> Result<(), Refusal>
+    requires callable { (i : ℕ) → i < n → F.pre passes i }
+    requires few { (n ≤ 65535) × (first ≤ 65536) }
+    ensures { (ok : ℕ → Bool) → ((i : ℕ) (b : Bool) → i < n → F.post passes i b → b ≡ ok i)
+        → verdict_of result ≡ demand_each (number_of reason) first ok n }
+{
+    for i in 0..n {
+        if !passes(i) {
+            return Err(Refusal {
+                reason,
+                place: first + i,
+            });
+        }
+    }
+    Ok(())
+}
+
 // 3, for the carriers: each has a dock count within its limits, and its cells lie in the grid.
 fn carriers_inside(f: Floor) -> Result<(), Refusal>
     requires width_bound { (f.width ≤ 32) × (f.height ≤ 32) }
     requires carriers_bound { f.carriers ≤ 8 }
     ensures { verdict_of result ≡ carriers_of f }
 {
-    let n = f.carriers as usize;
-    for i in 0..n {
-        if !carrier_inside(f, i) {
-            return Err(Refusal {
-                reason: Reason::OutsideGrid,
-                place: 1 + i,
-            });
-        }
-    }
-    Ok(())
+    in_order(
+        f.carriers as usize,
+        Reason::OutsideGrid,
+        1,
+        |i| carrier_inside(f, i),
+    )
 }
 
 // 3, for the walls: each lies in the grid.
@@ -121,17 +141,13 @@ fn walls_inside(f: Floor, walls: &[u16]) -> Result<(), Refusal>
     requires walls_in_bounds { f.walls ≤ length walls.now }
     ensures { verdict_of result ≡ walls_of f walls.now }
 {
-    let n = f.walls as usize;
-    let base = f.carriers as usize + 1;
-    for j in 0..n {
-        if !in_grid(f, walls[j]) {
-            return Err(Refusal {
-                reason: Reason::OutsideGrid,
-                place: base + j,
-            });
-        }
-    }
-    Ok(())
+    let behind = f.carriers as usize + 1;
+    in_order(
+        f.walls as usize,
+        Reason::OutsideGrid,
+        behind,
+        |j| in_grid(f, walls[j]),
+    )
 }
 
 // Whether wall j is above the wall before it.
@@ -150,39 +166,22 @@ fn rising(f: Floor, walls: &[u16]) -> Result<(), Refusal>
     requires { f.walls ≤ length walls.now }
     ensures { verdict_of result ≡ rising_of f walls.now }
 {
-    let n = f.walls as usize;
-    let base = f.carriers as usize + 1;
-    for j in 0..n {
-        if !rises(walls, j) {
-            return Err(Refusal {
-                reason: Reason::WallOrder,
-                place: base + j,
-            });
-        }
-    }
-    Ok(())
+    let behind = f.carriers as usize + 1;
+    in_order(
+        f.walls as usize,
+        Reason::WallOrder,
+        behind,
+        |j| rises(walls, j),
+    )
 }
 
-// Whether c is one of the first k walls, which rise: a binary search.
+// Whether c is one of the first k walls, which rise.
 pub fn is_wall(walls: &[u16], k: usize, c: u16) -> bool
     requires k_in_bounds { k ≤ length walls.now }
     requires strictly_rising { StrictlyRising walls.now k }
     ensures { result ≡ among walls.now k c }
 {
-    let mut low: usize = 0;
-    let mut high = k;
-    while low < high {
-        let middle = low + (high - low) / 2;
-        if walls[middle] < c {
-            low = middle + 1;
-        } else {
-            high = middle;
-        }
-    }
-    if k <= low {
-        return false;
-    }
-    walls[low] == c
+    walls[..k].binary_search(&c).is_ok()
 }
 
 // Whether no dock of carrier i is a wall.
@@ -227,16 +226,12 @@ fn clear(f: Floor, walls: &[u16]) -> Result<(), Refusal>
     requires strictly_rising { StrictlyRising walls.now f.walls }
     ensures { verdict_of result ≡ clear_of f walls.now }
 {
-    let n = f.carriers as usize;
-    for i in 0..n {
-        if !clear_of_walls(f, walls, i) {
-            return Err(Refusal {
-                reason: Reason::OnWall,
-                place: 1 + i,
-            });
-        }
-    }
-    Ok(())
+    in_order(
+        f.carriers as usize,
+        Reason::OnWall,
+        1,
+        |i| clear_of_walls(f, walls, i),
+    )
 }
 
 // Whether no carrier before carrier i has its start.
@@ -254,26 +249,24 @@ fn distinct(f: Floor) -> Result<(), Refusal>
     requires { f.carriers ≤ 8 }
     ensures { verdict_of result ≡ distinct_of f }
 {
-    let n = f.carriers as usize;
-    for i in 0..n {
-        if !unshared(f, i) {
-            return Err(Refusal {
-                reason: Reason::SharedStart,
-                place: 1 + i,
-            });
-        }
-    }
-    Ok(())
+    in_order(
+        f.carriers as usize,
+        Reason::SharedStart,
+        1,
+        |i| unshared(f, i),
+    )
 }
 
-// Whether no cell is twice among the first n docks.
-fn unrepeated(docks: &[u16], n: usize) -> bool
-    requires { n ≤ length docks.now }
-    ensures { result ≡ each n (λ k. not (among docks.now k (get_or docks.now k 0))) }
+// Whether no dock of carrier i stands before in its list.
+fn unrepeated(f: Floor, i: usize) -> bool
+    requires i_bound { i < 8 }
+    requires i_bound_2 { count_of f i ≤ 4 }
+    ensures { result ≡ unrepeated f i }
 {
+    let docks = docks_of(f, i);
+    let n = f.counts[i] as usize;
     for k in 0..n {
-        let dock = docks[k];
-        if among(docks, k, dock) {
+        if among(&docks, k, docks[k]) {
             return false;
         }
     }
@@ -286,19 +279,12 @@ fn all_unrepeated(f: Floor) -> Result<(), Refusal>
     requires counts_within { CountsWithin f }
     ensures { verdict_of result ≡ unrepeated_of f }
 {
-    let n = f.carriers as usize;
-    let docks = f.docks;
-    let counts = f.counts;
-    for i in 0..n {
-        let at = 4 * i;
-        if !unrepeated(&docks[at..at + 4], counts[i] as usize) {
-            return Err(Refusal {
-                reason: Reason::RepeatedDock,
-                place: 1 + i,
-            });
-        }
-    }
-    Ok(())
+    in_order(
+        f.carriers as usize,
+        Reason::RepeatedDock,
+        1,
+        |i| unrepeated(f, i),
+    )
 }
 
 // 3 to 6 and 17, in this order.

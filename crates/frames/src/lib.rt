@@ -101,6 +101,7 @@ fn put_beat(f: Floor, walls: &[u16], t: u16, out: &mut [u8]) -> usize
     lines::put_frame(&scene, t as usize, out, 0)
 }
 
+// Kept, alike in form with `stranded::print`: each contract names its own text.
 // Prints the map, the arrivals and all beats of any text that is a sheet, and of any other text the line of its refusal; the number of
 // printed bytes is returned.
 pub fn print(text: &[u8], out: &mut [u8; TEXT_LENGTH]) -> usize
@@ -113,7 +114,7 @@ pub fn print(text: &[u8], out: &mut [u8; TEXT_LENGTH]) -> usize
             let k = f.walls as usize;
             put_whole(f, &walls[..k], out)
         }
-        Err(x) => printing::put_refusal(x, out),
+        Err(x) => printing::put_refusal(x.number(), x.place, out),
     }
 }
 
@@ -129,6 +130,6 @@ pub fn print_beat(text: &[u8], t: u16, out: &mut [u8; BEAT_LENGTH]) -> usize
             let k = f.walls as usize;
             put_beat(f, &walls[..k], t, out)
         }
-        Err(x) => printing::put_refusal(x, out),
+        Err(x) => printing::put_refusal(x.number(), x.place, out),
     }
 }

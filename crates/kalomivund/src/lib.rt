@@ -2,6 +2,7 @@
 // A floor record is 54 numbers: width, height, horizon, depth, carriers, walls, eight starts, eight dock counts, thirty-two docks (four
 // places a carrier). Every function answers one word: low byte 0 done or 1 refused, the next byte the case or the refusal, then the
 // number or the place. Nothing is decided here: each function hands its slices to the entry of its name and packs the answer.
+// Kept alike: C calls each by its name, and each has its own contract.
 #![tactic(auto)]
 
 mod answers;

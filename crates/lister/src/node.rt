@@ -69,7 +69,7 @@ impl Node {
         }
     }
 
-    // Whether the step at a place of the ranking is open.
+    // Whether the step at a place of the ranking is open. (Kept here and in `is_silent`: a `State` would be taken apart at once again.)
     pub fn is_open_at(&self, f: Floor, p: usize) -> bool
         requires p_bound { p < places f.carriers }
         requires carriers_bound { (f.carriers ≤ 8) × (state_size f.carriers ≤ length self.now.memory) }

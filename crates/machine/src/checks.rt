@@ -1,9 +1,8 @@
 // The refusals of the entries, in document 01's order: the floor's, 9, 10, 7, then what a single step waits for: 8, 12, 13.
-ghost use Rattle.std.specs.Prelude.{◌≡◌, ◌≤◌, length};
+ghost use Rattle.std.specs.Prelude.{◌≡◌, length};
 ghost use Rattle.laws.specs.Verdict.{demand_each};
 ghost use Rattle.floor.specs.Answers.{verdict_of};
 ghost use Rattle.reference.specs.Table.{step};
-ghost use Rattle.encoding.specs.Places.{state_size};
 ghost use Rattle.encoding.specs.Calls.{place_verdict, state_verdict};
 ghost use Rattle.encoding.specs.InnerCalls.{single_verdict_in};
 ghost use Rattle.steps.specs.Answers.{step_meant};
@@ -11,6 +10,7 @@ ghost use Rattle.steps.specs.Inner.{bare};
 ghost use Rattle.machine.specs.Inner.{named_at};
 
 use floor::{Floor, Reason, Refusal};
+use state::State;
 use steps::Step;
 
 // The refusals of a lent place for a state.
@@ -36,17 +36,16 @@ pub fn lent_state(f: Floor, walls: &[u16], m: &[u16]) -> Result<(), Refusal>
 }
 
 // The refusals of a single step on a checked state: 7, then what it waits for.
-pub fn ready(f: Floor, m: &[u16], x: Step) -> Result<(), Refusal>
-    requires { (f.carriers ≤ 8) × (state_size f.carriers ≤ length m.now) }
-    ensures { verdict_of result ≡ single_verdict_in (bare f) m.now (step (step_meant x)) }
+pub fn ready(s: &State, x: Step) -> Result<(), Refusal>
+    ensures { verdict_of result ≡ single_verdict_in (bare s.now.floor) s.now.memory.now (step (step_meant x)) }
 {
-    if !steps::is_there(f, x) {
+    if !steps::is_there(s.floor, x) {
         return Err(Refusal {
             reason: Reason::Unknown,
             place: 0,
         });
     }
-    steps::waits(f, m, x)
+    steps::waits(s.floor, s.memory, x)
 }
 
 // 7 with the position of the first number of a list that names no step that is there.

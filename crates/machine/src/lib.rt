@@ -17,6 +17,7 @@ ghost use Rattle.machine.specs.Ceiling.{figure_of, most_steps};
 pub use checks::lent_place;
 use floor::{Floor, Reason, Refusal};
 pub use runs::{Ending, Run};
+use state::State;
 use steps::Taken;
 
 // Puts the fresh state of a floor into lent memory.
@@ -43,7 +44,11 @@ fn step_on(f: Floor, walls: &[u16], state: &mut [u16], number: u16) -> Result<Ta
             place: 0,
         });
     };
-    checks::ready(f, state, s)?;
+    let now = State {
+        floor: f,
+        memory: state,
+    };
+    checks::ready(&now, s)?;
     let free = steps::rows_for(f, walls, s);
     Ok(steps::take(f, walls, free, state, s))
 }
@@ -71,9 +76,13 @@ fn run_on(f: Floor, walls: &[u16], state: &mut [u16], numbers: &[u16], budget: u
 {
     let free = search::free_rows(f, walls);
     let tally = runs::run_all(f, walls, free, state, numbers, budget as usize);
+    let now = State {
+        floor: f,
+        memory: state,
+    };
     Run {
         taken: tally.taken,
-        ending: runs::how_ended(f, state, tally, budget as usize, numbers.len()),
+        ending: runs::how_ended(&now, tally, budget as usize, numbers.len()),
     }
 }
 

@@ -1,6 +1,5 @@
 // The run: the open steps of a list in turn, as many as the budget allows.
-ghost use Rattle.std.specs.Prelude.{◌≡◌, map, ◌≤◌, length};
-ghost use Rattle.encoding.specs.Places.{state_size};
+ghost use Rattle.std.specs.Prelude.{◌≡◌, map, length};
 ghost use Rattle.encoding.specs.Numbers.{asked_by};
 ghost use Rattle.encoding.specs.Calls.{machine_of};
 ghost use Rattle.encoding.specs.InnerSteps.{silent_in};
@@ -11,6 +10,7 @@ ghost use Rattle.machine.specs.Inner.{Attempted, Tallied, ends_with};
 
 use floor::Floor;
 use search::Rows;
+use state::State;
 
 // How a run ended.
 #[derive(Clone, Copy)]
@@ -81,12 +81,11 @@ pub fn run_all(
 // How a run ended: silent, if no step is open then; otherwise spent, if the budget is used up and steps are left; otherwise
 // ended.
 #[tactic(auto, unfolding(crate::specs::Answers::ending_meant, crate::specs::Inner::ends_with, reference::specs::Ending::ends_as))]
-pub fn how_ended(f: Floor, m: &[u16], tally: Tally, budget: usize, listed: usize) -> Ending
-    requires { (f.carriers ≤ 8) × (state_size f.carriers ≤ length m.now) }
+pub fn how_ended(s: &State, tally: Tally, budget: usize, listed: usize) -> Ending
     ensures { ending_meant result ≡
-        ends_with (silent_in (bare f) m.now) tally.taken budget tally.read listed }
+        ends_with (silent_in (bare s.now.floor) s.now.memory.now) tally.taken budget tally.read listed }
 {
-    if steps::is_silent(f, m) {
+    if steps::is_silent(s.floor, s.memory) {
         Ending::Silent
     } else if tally.taken == budget && tally.read < listed {
         Ending::Spent

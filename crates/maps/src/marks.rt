@@ -27,6 +27,7 @@ fn put_start(f: Floor, i: usize, c: u16, out: &mut [u8], at: usize) -> usize
     at
 }
 
+// Kept beside `put_docks`: a function for both would be longer than its four lines, as each contract names its own marks.
 // Puts the digits of the carriers that start in cell c; the column behind them is returned.
 pub fn put_starts(f: Floor, c: u16, out: &mut [u8], at: usize) -> usize
     requires { (f.carriers ≤ 8) × (at + 8 ≤ length out.old) }

@@ -166,7 +166,7 @@ fn put_pair(f: Floor, walls: &[u16], i: u16, j: u16, out: &mut [u8]) -> usize
 {
     match pair_listed(f, i, j) {
         Ok(()) => put_meeting(f, &walls[..f.walls as usize], i, j, out),
-        Err(x) => printing::put_refusal(x, out),
+        Err(x) => printing::put_refusal(x.number(), x.place, out),
     }
 }
 
@@ -179,6 +179,6 @@ pub fn print(text: &[u8], i: u16, j: u16, out: &mut [u8; TEXT_LENGTH]) -> usize
     let mut walls = sheet::no_walls();
     match sheet::read(text, &mut walls) {
         Ok(f) => put_pair(f, &walls, i, j, out),
-        Err(x) => printing::put_refusal(x, out),
+        Err(x) => printing::put_refusal(x.number(), x.place, out),
     }
 }

@@ -66,6 +66,7 @@ pub fn forward(g: SearchGrid, sets: &mut [u32], table: &[u32], start: usize, ds:
     put_alone(g, sets, 0, start);
     let near = nearest(g, start, ds);
     let mut t: usize = 0;
+    // Kept: no index is counted, the beats are made a few at a time until a dock is reached.
     while !arrives(g, sets, ds, t) {
         if t == g.horizon {
             return t + 1;

@@ -231,7 +231,7 @@ pub fn print(text: &[u8], out: &mut [u8; TEXT_LENGTH]) -> usize
     let mut walls = sheet::no_walls();
     let n = match sheet::read(text, &mut walls) {
         Ok(f) => put_read(f, &walls, out),
-        Err(x) => printing::put_refusal(x, out),
+        Err(x) => printing::put_refusal(x.number(), x.place, out),
     };
     wording::within(n, out)
 }

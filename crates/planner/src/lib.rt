@@ -3,7 +3,7 @@
 
 mod tags;
 
-ghost use Rattle.std.specs.Prelude.{List, ◌≡◌, ℕ, ◌+◌, ◌*◌, ◌-◌, ◌≤◌, ◌<◌, length};
+ghost use Rattle.std.specs.Prelude.{List, ◌≡◌, ℕ, ◌+◌, ◌*◌, ◌-◌, ◌≤◌, ◌<◌, length, IfSome, IfOk};
 ghost use Rattle.floor.specs.Answers.{verdict_of};
 ghost use Rattle.route.specs.Sequential.{sequential};
 ghost use Rattle.search.specs.Rows.{Searchable};
@@ -86,6 +86,7 @@ fn plan_all(f: Floor, free: Rows, answers: &mut [u16])
 pub fn plan(f: Floor, walls: &[u16], answers: &mut [u16]) -> Result<Option<usize>, Refusal>
     ensures answers { planned_outcome result ≡ plan_result f walls.now (length answers.old) }
     ensures stores { answers.new ≡ plan_memory f walls.now answers.old }
+    ensures counted { IfOk result (λ x. IfSome x (λ i. 1 ≤ i)) }
 {
     request(f, walls, answers.len())?;
     let free = search::free_rows(f, walls);

@@ -1,5 +1,5 @@
 // The tags of answers: the record of a search's answer, and the first answer in memory that is no route.
-ghost use Rattle.std.specs.Prelude.{◌≡◌, ◌*◌, ◌≤◌, ◌∷◌, length};
+ghost use Rattle.std.specs.Prelude.{◌≡◌, ◌*◌, ◌≤◌, ◌∷◌, length, IfSome};
 ghost use Rattle.search.specs.Answers.{answer_of};
 ghost use Rattle.records.specs.Records.{record_of};
 ghost use Rattle.planner.specs.Answers.{failing_meant};
@@ -21,7 +21,8 @@ pub fn told(found: Option<Route>) -> (u16, Route)
 // Kept with a count: a slice of these records would be told in numbers, 65 a record, which is no plainer.
 pub fn failing(answers: &[u16], n: usize) -> Option<usize>
     requires { (n ≤ 8) × (65 * n ≤ length answers.now) }
-    ensures { failing_meant result ≡ first_from answers.now 0 n }
+    ensures found { failing_meant result ≡ first_from answers.now 0 n }
+    ensures counted { IfSome result (λ i. 1 ≤ i) }
 {
     for i in 0..n {
         if answers[records::SIZE * i] != 2 {

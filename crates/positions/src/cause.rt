@@ -1,6 +1,7 @@
 // The field that is the cause of a refusal 3, 5 or 17, found in a sheet in good form: an item is a carrier or a wall, and has a line of its
 // own. Pair 0 of a carrier's line is its start, pair k its dock k; the pair of a wall's line is 0. Fields count from 0.
-ghost use Rattle.std.specs.Prelude.{◌≤◌};
+ghost use Rattle.std.specs.Prelude.{◌≡◌, ◌+◌, ◌*◌, ◌≤◌, length};
+ghost use Rattle.fields.specs.Field.{number_at};
 
 use crate::sheet_line;
 use floor::{Reason, Refusal};
@@ -47,6 +48,8 @@ fn outside_field(text: &[u8], start: usize) -> usize
 // The pair at a field of the line that begins at a column: the column and the row of a cell.
 pub fn pair_at(text: &[u8], start: usize, field: usize) -> (usize, usize)
     requires { field ≤ 10 }
+    ensures column { start ≤ 65536 → start + 5 * field + 5 ≤ length text.now → result.0 ≡ number_at text.now (start + 5 * field) }
+    ensures row { start ≤ 65536 → start + 5 * (field + 1) + 5 ≤ length text.now → result.1 ≡ number_at text.now (start + 5 * (field + 1)) }
 {
     (
         sheet_line::field_at(text, start, field),

@@ -1,8 +1,11 @@
 // The lines of a sheet and their fields, found by its newlines. Line 1 has six fields, a carrier's line three and two a dock, a wall's two.
-ghost use Rattle.std.specs.Prelude.{◌≤◌, ◌<◌, length};
+ghost use Rattle.std.specs.Prelude.{◌≡◌, ◌+◌, ◌*◌, ◌≤◌, ◌<◌, length};
+ghost use Rattle.fields.specs.Field.{number_at};
 
 // The number of the field at a column of a text; 0 where the text is too short.
-pub fn number_at(text: &[u8], at: usize) -> usize {
+pub fn number_at(text: &[u8], at: usize) -> usize
+    ensures { at + 5 ≤ length text.now → result ≡ number_at text.now at }
+{
     if 5 <= text.len() && at <= text.len() - 5 {
         fields::number(text, at) as usize
     } else {
@@ -27,7 +30,9 @@ pub fn line_start(text: &[u8], line: usize) -> usize
 }
 
 // The number in field k, counted from 0, of the line that begins at a column.
-pub fn field_at(text: &[u8], start: usize, k: usize) -> usize {
+pub fn field_at(text: &[u8], start: usize, k: usize) -> usize
+    ensures { start ≤ 65536 → k ≤ 16 → start + 5 * k + 5 ≤ length text.now → result ≡ number_at text.now (start + 5 * k) }
+{
     if start <= 65536 && k <= 16 {
         number_at(text, start + 5 * k)
     } else {

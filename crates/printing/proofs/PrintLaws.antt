@@ -3,7 +3,8 @@ use Prim.Native.Nat.{ℕ, ◌*◌, ◌≤◌, ◌<◌, min}
 use native.Mathlib.Omega.{arith}
 use mathlib.Core.Path.{◌≡◌, refl, sym, ◌∙◌, ap}
 use mathlib.Core.List.{List, ◌++◌}
-use Rattle.std.specs.Prelude.{Option, Result, Ok, Err, IfOk}
+use Rattle.std.specs.Prelude.{Option, Some, None, Result, Ok, Err, IfOk}
+use Rattle.std.specs.Option.{ok_or}
 use Rattle.std.specs.Result.{IsErrAnd}
 use Rattle.std.proofs.lemmas.Result.{err_from_is_err_and}
 use borrow.Author.Tests.{le-leb, lt-leb, leb-false}
@@ -29,7 +30,7 @@ use Rattle.planner.specs.Records.{plan_memory}
 use Rattle.records.specs.Records.{stored}
 use Rattle.planner.specs.Answers.{failing_meant, planned_outcome, plan_result}
 use Rattle.printing.specs.Text.{refusal_line}
-use Rattle.printing.specs.Print.{print_of, text_length}
+use Rattle.printing.specs.Print.{print_of, text_length, printed_or, printed_outcome}
 use Rattle.printing.specs.Print.{print_verdict, or_refusal, routes_of, needed_for, short_outcome, routes_outcome}
 use Rattle.printing.specs.Print.{routes_memory}
 use Rattle.printing.specs.Put.{TextPut, TextOrShort, FloorPut, RefusalPut, text_in}
@@ -163,6 +164,14 @@ module _ {y : Result Floor Refusal} {x : Refusal} (text old : List ℕ) (wide : 
 
   pub place_small : x.place ≤ 65535
   place_small = omega (arith, sheet-theorems.place_low text _ _ was_refused)
+
+-- A line that was put, or the refusal handed on for want of room.
+pub refusal_handed : (o : Option ℕ) (x : Refusal) (k : ℕ) (y : Result ℕ Refusal) (old new : List ℕ) → k ≡ number_of x.reason
+    → y ≡ ok_or o x → RefusalPut k x.place old new (printed_or k x.place o)
+    → RefusalPut (number_of x.reason) x.place old new (printed_outcome y)
+unfolding outcome_by
+refusal_handed None x k y old new e h p = rw h (rw e at p)
+refusal_handed (Some n) x k y old new e h p = rw h (rw e at p)
 
 -- The line of a refusal has 16 bytes.
 pub refusal_length : (k p : ℕ) → length (refusal_line k p) ≡ 16

@@ -1,5 +1,5 @@
 -- Printing a floor's routes, and the whole path from a sheet's bytes to the printed bytes.
-use Rattle.std.specs.Prelude.{ℕ, ◌+◌, ◌*◌, cond, List, Result, leb, length}
+use Rattle.std.specs.Prelude.{ℕ, ◌+◌, ◌*◌, cond, List, Option, Some, None, Result, leb, length}
 use Rattle.laws.specs.Memory.{put}
 use Rattle.floor.specs.declared.Floor.{Floor}
 use Rattle.floor.specs.declared.Refusal.{Refusal}
@@ -15,6 +15,11 @@ use Rattle.printing.specs.Text.{routes_text, refusal_line}
 -- What the code's answer says: the number of bytes that were written, or the refusal.
 abbrev pub printed_outcome : Result ℕ Refusal → Outcome ℕ
 printed_outcome x = outcome_by (λ n. n) x
+
+-- What it says where a refusal's line is printed: the number of bytes that were written, or that refusal.
+abbrev pub printed_or : ℕ → ℕ → Option ℕ → Outcome ℕ
+printed_or k p None = refusal k p
+printed_or k p (Some n) = value n
 
 -- The routes of a floor as text.
 unfoldable pub print_of : Floor → List ℕ → List ℕ

@@ -5,12 +5,12 @@
 mod lines;
 
 ghost use Rattle.std.specs.Prelude.{◌≡◌, ◌≤◌, length, take};
-ghost use Rattle.floor.specs.Answers.{number_of, verdict_of};
+ghost use Rattle.floor.specs.Answers.{verdict_of};
 ghost use Rattle.floor.specs.Checks.{check_of};
 ghost use Rattle.laws.specs.Verdict.{passed};
 ghost use Rattle.planner.specs.Plan.{plan_of, plan_verdict};
 ghost use Rattle.records.specs.Records.{stored};
-ghost use Rattle.printing.specs.Print.{printed_outcome, print_of, text_length, print_verdict};
+ghost use Rattle.printing.specs.Print.{printed_outcome, printed_or, print_of, text_length, print_verdict};
 ghost use Rattle.printing.specs.Print.{print_outcome, print_answers, print_memory, routes_outcome, routes_memory};
 ghost use Rattle.printing.specs.Put.{TextPut, FloorPut, RefusalPut};
 
@@ -79,15 +79,14 @@ fn print_read(f: Floor, walls: &[u16], out: &mut [u8]) -> Result<usize, Refusal>
     Ok(put_routes(f, &walls[..k], out))
 }
 
-// The line of a refused sheet; with less than 16 bytes of text memory the refusal itself.
-pub fn print_refusal(x: Refusal, out: &mut [u8]) -> Result<usize, Refusal>
-    ensures { RefusalPut (number_of x.reason) x.place out.old out.new (printed_outcome result) }
+// The line of a refused sheet, by any number and place; none with less than 16 bytes of text memory, and then the refusal is the answer.
+pub fn print_refusal(number: u16, place: usize, out: &mut [u8]) -> Option<usize>
+    ensures { RefusalPut number place out.old out.new (printed_or number place result) }
 {
     if out.len() < 16 {
-        return Err(x);
+        return None;
     }
-    let place = x.place.min(65535);
-    Ok(put_refusal(Refusal { place, ..x }, out))
+    Some(put_refusal(number, place.min(65535), out))
 }
 
 // From a sheet's bytes to the printed bytes: the routes of its floor, or the line of its refusal. With too little text
@@ -99,6 +98,6 @@ pub fn routes(text: &[u8], out: &mut [u8]) -> Result<usize, Refusal>
     let mut walls = sheet::no_walls();
     match sheet::read(text, &mut walls) {
         Ok(f) => print_read(f, &walls, out),
-        Err(x) => print_refusal(x, out),
+        Err(x) => print_refusal(x.number(), x.place, out).ok_or(x),
     }
 }

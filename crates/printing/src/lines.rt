@@ -1,12 +1,11 @@
 // The lines of printed routes.
 ghost use Rattle.std.specs.Prelude.{◌≡◌, ◌∷◌, ◌+◌, ◌*◌, ◌≤◌, ◌<◌, length, take};
-ghost use Rattle.floor.specs.Answers.{number_of};
 ghost use Rattle.laws.specs.Memory.{put};
 ghost use Rattle.sheet.specs.Text.{line_of};
 ghost use Rattle.printing.specs.Text.{fields_of, none_word, none_line, first_line, refusal_line};
 ghost use Rattle.printing.specs.Put.{text_in, TextPut, LinePut, LinesPut, Printable};
 
-use floor::{Floor, Refusal};
+use floor::Floor;
 use route::Route;
 
 // The first n cells of a route, a field each.
@@ -102,13 +101,13 @@ pub fn put_routes(f: Floor, failing: u16, answers: &[u16], out: &mut [u8]) -> us
 }
 
 // Puts the line of a refusal; its length is returned.
-pub fn put_refusal(x: Refusal, out: &mut [u8]) -> usize
-    requires { (x.place ≤ 65535) × (16 ≤ length out.old) }
-    ensures { TextPut (refusal_line (number_of x.reason) x.place) out.old out.new result }
+pub fn put_refusal(number: u16, place: usize, out: &mut [u8]) -> usize
+    requires { (place ≤ 65535) × (16 ≤ length out.old) }
+    ensures { TextPut (refusal_line number place) out.old out.new result }
 {
     fields::put_field(out, 0, 0);
-    fields::put_field(out, 5, x.number());
-    fields::put_field(out, 10, x.place as u16);
+    fields::put_field(out, 5, number);
+    fields::put_field(out, 10, place as u16);
     out[15] = b'\n';
     16
 }

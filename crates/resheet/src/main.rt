@@ -47,7 +47,7 @@ fn print(text: &[u8], out: &mut [u8; SHEET_LENGTH]) -> usize
     let mut walls = sheet::no_walls();
     match sheet::read(text, &mut walls) {
         Ok(f) => put_sheet(f, &walls, out),
-        Err(x) => printing::put_refusal(x, out),
+        Err(x) => printing::put_refusal(x.number(), x.place, out),
     }
 }
 

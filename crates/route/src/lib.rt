@@ -51,7 +51,8 @@ fn following(c: u16, d: u16, x: u16, y: u16) -> bool
     enters_left(c, d, x, y) || enters_left(x, y, c, d)
 }
 
-// The first conflict of two routes through the horizon, if there is one; at one beat same cell comes before change of places, and this before following.
+// The first conflict of two routes through the horizon, if there is one; at one beat same cell comes before change of places, and this
+// before following.
 pub fn first_conflict(r: Route, q: Route, horizon: u16) -> Option<Conflict>
     ensures { conflict_told result ≡ first_conflict (min horizon 63) r q }
 {

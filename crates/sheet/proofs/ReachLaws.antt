@@ -6,14 +6,14 @@ use mathlib.Core.List.{List}
 use Rattle.std.specs.Prelude.{Ok}
 use Rattle.floor.specs.declared.Floor.{Floor}
 use Rattle.laws.specs.Verdict.{Outcome, ◌gives◌}
-use Rattle.fields.specs.Reached.{reached_of}
+use Rattle.fields.specs.Reached.{column_told}
 use Rattle.fields.specs.Form.{line_form, counted_form, past_counted, past_pair, column_past, lines_form, end_form}
 use Rattle.fields.proofs.ReachedLaws.{reaches}
 use Rattle.fields.proofs.ColumnLaws.{counted_columns}
 use Rattle.sheet.specs.Form.{carrier_column, wall_column}
 
 module _ (text : List ℕ) (f : Floor) (column : ℕ)
-    (first : reached_of (Ok column) ≡ (lines_form (counted_form text) (past_counted text) 31 f.carriers
+    (first : column_told (Ok column) ≡ (lines_form (counted_form text) (past_counted text) 31 f.carriers
     gives column_past (past_counted text) 31 f.carriers)) where
   -- The walls' lines begin where the carriers' end.
   walls_begin : column ≡ carrier_column text f.carriers
@@ -35,7 +35,7 @@ module _ (text : List ℕ) (f : Floor) (column : ℕ)
 
   -- Nothing follows where the walls' lines end.
   pub end_behind : (last : ℕ) (o : Outcome ℕ)
-      → reached_of (Ok last) ≡ (lines_form (λ (p : ℕ). line_form text p 2) past_pair column f.walls gives column_past past_pair column f.walls)
+      → column_told (Ok last) ≡ (lines_form (λ (p : ℕ). line_form text p 2) past_pair column f.walls gives column_past past_pair column f.walls)
       → o ≡ (end_form text last gives last)
       → o ≡ (end_form text (wall_column text f.carriers f.walls) gives wall_column text f.carriers f.walls)
   end_behind last o e g = rw (reaches _ _ _ (walls_lines _ e)).1 at g

@@ -6,6 +6,7 @@ mod carriers;
 mod channels;
 mod checks;
 mod count;
+mod lent;
 mod places;
 mod start;
 
@@ -13,6 +14,7 @@ pub use carriers::{is_news, set_due, set_planned};
 pub use channels::{pop, send};
 pub use checks::valid;
 pub use count::tick;
+pub use lent::State;
 pub use places::{
     channel_place, due_place, message_place, state_size, view_place, views_end, views_start,
 };

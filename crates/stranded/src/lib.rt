@@ -126,6 +126,6 @@ pub fn print(text: &[u8], out: &mut [u8; TEXT_LENGTH]) -> usize
             let k = f.walls as usize;
             put_stranded(f, &walls[..k], out)
         }
-        Err(x) => printing::put_refusal(x, out),
+        Err(x) => printing::put_refusal(x.number(), x.place, out),
     }
 }

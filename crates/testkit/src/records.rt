@@ -11,7 +11,7 @@ fn are_zero(m: &[u16], from: usize, stride: usize, n: usize) -> bool {
     (0..n).all(|i| at(m, strided(from, stride, i)) == 0)
 }
 
-// The pairs of n carriers.
+// The pairs of n carriers. Kept beside `first_channel`: two tables, written out so that they are no code of the library again.
 fn pairs(n: usize) -> usize {
     match n {
         1 => 0,

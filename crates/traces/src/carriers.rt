@@ -1,5 +1,5 @@
 // What a picture has for each carrier: its words, its trace, its body at the start, its body that moves, its line in the legend.
-ghost use Rattle.std.specs.Prelude.{◌≤◌};
+ghost use Rattle.std.specs.Prelude.{◌≡◌, ◌≤◌};
 
 use crate::beats;
 use canvas::answers::Carrier;
@@ -15,6 +15,8 @@ pub fn put_all<F: Fn(Carrier<'_>, &mut Text<'_>)>(
     out: &mut Text<'_>,
 )
     requires { F.IsAlwaysCallable put }
+    ensures same_memory { ((c : _) (a b : _) → F.post put c a tt b → b.now.bytes.ghost_name ≡ a.now.bytes.ghost_name)
+        → out.new.bytes.ghost_name ≡ out.old.bytes.ghost_name }
 {
     for place in 0..(page.carriers as usize).min(8) {
         let carrier = Carrier {
@@ -27,7 +29,9 @@ pub fn put_all<F: Fn(Carrier<'_>, &mut Text<'_>)>(
 }
 
 // Puts the arrival of a carrier in words, for readers who hear the picture.
-pub fn put_words(carrier: Carrier<'_>, out: &mut Text<'_>) {
+pub fn put_words(carrier: Carrier<'_>, out: &mut Text<'_>)
+    ensures same_memory { out.new.bytes.ghost_name ≡ out.old.bytes.ghost_name }
+{
     let name = carrier.place + 1;
     if carrier.has_route() {
         out.fill(b"carrier %: beat %. ", &[name, carrier.arrival()]);
@@ -44,7 +48,9 @@ fn last_beat(carrier: Carrier<'_>) -> usize
 }
 
 // Puts the trace of a carrier that has a route, and a dot where it ends.
-pub fn put_trace(carrier: Carrier<'_>, out: &mut Text<'_>) {
+pub fn put_trace(carrier: Carrier<'_>, out: &mut Text<'_>)
+    ensures same_memory { out.new.bytes.ghost_name ≡ out.old.bytes.ghost_name }
+{
     if !carrier.has_route() {
         return;
     }
@@ -60,13 +66,17 @@ pub fn put_trace(carrier: Carrier<'_>, out: &mut Text<'_>) {
 }
 
 // Puts the opening of a body's group, at its start.
-fn put_start(carrier: Carrier<'_>, out: &mut Text<'_>) {
+fn put_start(carrier: Carrier<'_>, out: &mut Text<'_>)
+    ensures same_memory { out.new.bytes.ghost_name ≡ out.old.bytes.ghost_name }
+{
     let (x, y) = carrier.page.middle_of(carrier.cell(0));
     out.fill(b"<g transform=\"translate(% %)\">", &[x, y]);
 }
 
 // Puts a body and the end of its group.
-fn put_body(carrier: Carrier<'_>, out: &mut Text<'_>) {
+fn put_body(carrier: Carrier<'_>, out: &mut Text<'_>)
+    ensures same_memory { out.new.bytes.ghost_name ≡ out.old.bytes.ghost_name }
+{
     let name = carrier.place + 1;
     if carrier.page.small {
         out.fill(
@@ -82,7 +92,9 @@ fn put_body(carrier: Carrier<'_>, out: &mut Text<'_>) {
 }
 
 // Puts the body of a carrier that has a route, at its start.
-pub fn put_still(carrier: Carrier<'_>, out: &mut Text<'_>) {
+pub fn put_still(carrier: Carrier<'_>, out: &mut Text<'_>)
+    ensures same_memory { out.new.bytes.ghost_name ≡ out.old.bytes.ghost_name }
+{
     if carrier.has_route() {
         put_start(carrier, out);
         put_body(carrier, out);
@@ -90,7 +102,9 @@ pub fn put_still(carrier: Carrier<'_>, out: &mut Text<'_>) {
 }
 
 // Puts the movement of a carrier: its places at all beats, the last two more times.
-fn put_movement(carrier: Carrier<'_>, out: &mut Text<'_>) {
+fn put_movement(carrier: Carrier<'_>, out: &mut Text<'_>)
+    ensures same_memory { out.new.bytes.ghost_name ≡ out.old.bytes.ghost_name }
+{
     let page = carrier.page;
     let (x, y) = page.middle_of(carrier.cell(0));
     let last = last_beat(carrier);
@@ -105,7 +119,9 @@ fn put_movement(carrier: Carrier<'_>, out: &mut Text<'_>) {
 }
 
 // Puts the body of a carrier that has a route, moving.
-pub fn put_moving(carrier: Carrier<'_>, out: &mut Text<'_>) {
+pub fn put_moving(carrier: Carrier<'_>, out: &mut Text<'_>)
+    ensures same_memory { out.new.bytes.ghost_name ≡ out.old.bytes.ghost_name }
+{
     if carrier.has_route() {
         put_start(carrier, out);
         put_movement(carrier, out);
@@ -114,7 +130,9 @@ pub fn put_moving(carrier: Carrier<'_>, out: &mut Text<'_>) {
 }
 
 // Puts the body of a carrier that has no route, at its start and hatched.
-pub fn put_stranded(carrier: Carrier<'_>, out: &mut Text<'_>) {
+pub fn put_stranded(carrier: Carrier<'_>, out: &mut Text<'_>)
+    ensures same_memory { out.new.bytes.ghost_name ≡ out.old.bytes.ghost_name }
+{
     if carrier.has_route() {
         return;
     }
@@ -130,7 +148,9 @@ pub fn put_stranded(carrier: Carrier<'_>, out: &mut Text<'_>) {
 }
 
 // Puts the line of a carrier in the legend.
-pub fn put_line(carrier: Carrier<'_>, out: &mut Text<'_>) {
+pub fn put_line(carrier: Carrier<'_>, out: &mut Text<'_>)
+    ensures same_memory { out.new.bytes.ghost_name ≡ out.old.bytes.ghost_name }
+{
     let name = carrier.place + 1;
     let x = carrier.page.legend();
     let y = page::legend_line(name);

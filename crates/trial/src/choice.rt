@@ -1,11 +1,11 @@
 // What an order takes: one of the open places of the ranking.
-ghost use Rattle.std.specs.Prelude.{◌≡◌, ◌<◌, ◌≤◌, length, slice_index};
-ghost use Rattle.encoding.specs.Places.{state_size};
+ghost use Rattle.std.specs.Prelude.{◌≡◌, ◌<◌, ◌≤◌, slice_index};
 ghost use Rattle.orders.specs.Orders.{round, places, start_memory, remembered, passing};
 ghost use Rattle.trial.specs.Entry.{order_meant, OrderAsked};
 ghost use Rattle.trial.specs.Inner.{opens_in, open_count, turn_in, chosen_in};
 
-use floor::{Floor, Reason, Refusal};
+use floor::{Reason, Refusal};
+use state::State;
 
 // The order in which a trial takes steps.
 #[derive(Clone, Copy)]
@@ -39,23 +39,25 @@ impl TryFrom<u16> for Order {
 
 // Whether the step at a place is open.
 #[tactic(auto, unfolding(crate::specs::Inner::opens_in))]
-fn open_at(f: Floor, m: &[u16], p: usize) -> bool
-    requires p_bound { p < places f.carriers }
-    requires carriers_bound { (f.carriers ≤ 8) × (state_size f.carriers ≤ length m.now) }
-    ensures { result ≡ opens_in f m.now p }
+fn open_at(s: &State, p: usize) -> bool
+    requires p_bound { p < places s.now.floor.carriers }
+    ensures { result ≡ opens_in s.now.floor s.now.memory.now p }
 {
-    steps::is_open(f, m, crate::places::step_at(f.carriers as usize, p))
+    steps::is_open(
+        s.floor,
+        s.memory,
+        crate::places::step_at(s.floor.carriers as usize, p),
+    )
 }
 
 // How many of the first k places are open.
-pub fn count_open(f: Floor, m: &[u16], k: usize) -> usize
-    requires k_bound { k ≤ places f.carriers }
-    requires carriers_bound { (f.carriers ≤ 8) × (state_size f.carriers ≤ length m.now) }
-    ensures { (result ≡ open_count f m.now k) × (result ≤ k) }
+pub fn count_open(s: &State, k: usize) -> usize
+    requires k_bound { k ≤ places s.now.floor.carriers }
+    ensures { (result ≡ open_count s.now.floor s.now.memory.now k) × (result ≤ k) }
 {
     let mut count: usize = 0;
     for p in 0..k {
-        if open_at(f, m, p) {
+        if open_at(s, p) {
             count += 1;
         }
     }
@@ -63,16 +65,15 @@ pub fn count_open(f: Floor, m: &[u16], k: usize) -> usize
 }
 
 // The open place that has i others before it.
-fn place_at(f: Floor, m: &[u16], i: usize) -> usize
-    requires i_bound { i < open_count f m.now (places f.carriers) }
-    requires carriers_bound { (f.carriers ≤ 8) × (state_size f.carriers ≤ length m.now) }
-    ensures { (result ≡ slice_index (passing (opens_in f m.now) (places f.carriers)) i)
-        × (result < places f.carriers) }
+fn place_at(s: &State, i: usize) -> usize
+    requires i_bound { i < open_count s.now.floor s.now.memory.now (places s.now.floor.carriers) }
+    ensures { (result ≡ slice_index (passing (opens_in s.now.floor s.now.memory.now) (places s.now.floor.carriers)) i)
+        × (result < places s.now.floor.carriers) }
 {
-    let all = crate::places::count(f.carriers as usize);
+    let all = crate::places::count(s.floor.carriers as usize);
     let mut before: usize = 0;
     for p in 0..all {
-        if open_at(f, m, p) {
+        if open_at(s, p) {
             if before == i {
                 return p;
             }
@@ -85,26 +86,24 @@ fn place_at(f: Floor, m: &[u16], i: usize) -> usize
 // Which of the open places an order takes that remembers kept: order 1 the first; order 2 the one behind those before place kept;
 // order 3 the one at the drawn number.
 #[tactic(auto, unfolding(crate::specs::Entry::order_meant, crate::specs::Inner::turn_in))]
-fn turn(f: Floor, m: &[u16], order: Order, kept: u32) -> usize
-    requires kept_bound { order_meant order ≡ round → kept ≤ places f.carriers }
-    requires carriers_bound { (f.carriers ≤ 8) × (state_size f.carriers ≤ length m.now) }
-    ensures { result ≡ turn_in (order_meant order) f m.now kept }
+fn turn(s: &State, order: Order, kept: u32) -> usize
+    requires kept_bound { order_meant order ≡ round → kept ≤ places s.now.floor.carriers }
+    ensures { result ≡ turn_in (order_meant order) s.now.floor s.now.memory.now kept }
 {
     match order {
         Order::First => 0,
-        Order::Round => count_open(f, m, kept as usize),
+        Order::Round => count_open(s, kept as usize),
         Order::Drawn => crate::generator::draw(kept),
     }
 }
 
 // The place that an order takes among the open ones, whose number is given.
-pub fn choose(f: Floor, m: &[u16], order: Order, kept: u32, candidates: usize) -> usize
-    requires candidates_value { (candidates ≡ open_count f m.now (places f.carriers)) × (0 < candidates) }
-    requires kept_bound { order_meant order ≡ round → kept ≤ places f.carriers }
-    requires carriers_bound { (f.carriers ≤ 8) × (state_size f.carriers ≤ length m.now) }
-    ensures { (result ≡ chosen_in (order_meant order) f m.now kept) × (result < places f.carriers) }
+pub fn choose(s: &State, order: Order, kept: u32, candidates: usize) -> usize
+    requires candidates_value { (candidates ≡ open_count s.now.floor s.now.memory.now (places s.now.floor.carriers)) × (0 < candidates) }
+    requires kept_bound { order_meant order ≡ round → kept ≤ places s.now.floor.carriers }
+    ensures { (result ≡ chosen_in (order_meant order) s.now.floor s.now.memory.now kept) × (result < places s.now.floor.carriers) }
 {
-    place_at(f, m, turn(f, m, order, kept) % candidates)
+    place_at(s, turn(s, order, kept) % candidates)
 }
 
 // What an order remembers when it starts.

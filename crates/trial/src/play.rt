@@ -17,6 +17,7 @@ ghost use Rattle.trial.specs.Inner.{open_count, Advanced, trial_by, room_verdict
 use crate::choice::Order;
 use floor::Floor;
 use search::Rows;
+use state::State;
 
 // The ceiling for n carriers; 0 where there are none.
 pub fn most_steps(n: usize) -> usize
@@ -55,7 +56,11 @@ fn advance(
     ensures { Advanced (order_meant order) f walls.now m.old report.old kept t result
         m.new report.new }
 {
-    let p = crate::choice::choose(f, m, order, kept, candidates);
+    let now = State {
+        floor: f,
+        memory: m,
+    };
+    let p = crate::choice::choose(&now, order, kept, candidates);
     let s = crate::places::step_at(f.carriers as usize, p);
     let number = crate::places::number_of(f, s);
     let taken = steps::take(f, walls, free, m, s);
@@ -87,7 +92,11 @@ fn take_all(
     let most = most_steps(f.carriers as usize);
     let mut c = crate::choice::start(order, seed);
     for t in 0..most {
-        let candidates = crate::choice::count_open(f, m, all);
+        let now = State {
+            floor: f,
+            memory: m,
+        };
+        let candidates = crate::choice::count_open(&now, all);
         if candidates == 0 {
             return t;
         }

@@ -18,10 +18,10 @@ pub run_all-tally-requires : goal.run_all-tally-requires
 run_all-tally-requires c =
     record { placed = state_tells _ _ _ c.requires.state_value; free = c.free_rows-free.ensures }
 
-pub how_ended-requires : goal.how_ended-requires
-how_ended-requires c =
-    let a = placed_sized (state_tells _ _ _ c.requires.state_value) in
-    (a.0, omega (arith, c.run_all-tally.auto.m, a.1))
+pub invariant_of-now : goal.invariant_of-now
+invariant_of-now c =
+    let sized = placed_sized (state_tells _ _ _ c.requires.state_value) in
+    record { few = sized.0; whole = omega (arith, c.run_all-tally.auto.m, sized.1) }
 
 pub returns : goal.returns
 returns c =

@@ -15,8 +15,8 @@ returns-in_default c =
     let both = step_unnamed _ _ _ c.requires _ c.in_default.ensures in
     record { answers = both.0; stores = both.1 }
 
-pub ready-requires : goal.ready-requires
-ready-requires c = placed_sized (state_tells _ _ _ c.requires)
+pub invariant_of-now : goal.invariant_of-now
+invariant_of-now c = let sized = placed_sized (state_tells _ _ _ c.requires) in record { few = sized.0; whole = sized.1 }
 
 pub returns-in_err-ready : goal.returns-in_err-ready
 unfolding asked_meant

@@ -27,5 +27,5 @@ put_refusal-requires c = (place_small _ _ c.no_walls-walls.ensures c.read.ensure
 pub returns-in-Err : goal.returns-in-Err
 unfolding meeting_text
 returns-in-Err c =
-    let both = refused_printed _ _ c.put_refusal.ensures (was_refused _ _ c.no_walls-walls.ensures c.read.ensures.answers c.in-Err.is) (omega arith) in
+    let both = refused_printed _ _ (rw c.number.ensures at c.put_refusal.ensures) (was_refused _ _ c.no_walls-walls.ensures c.read.ensures.answers c.in-Err.is) (omega arith) in
     record { counts = both.0; prints = both.1 }

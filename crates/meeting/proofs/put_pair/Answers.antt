@@ -27,4 +27,4 @@ put_refusal-requires c =
 pub returns-in-Err : goal.returns-in-Err
 returns-in-Err c =
     pair_refused _ _ _ _ _ _ _ _ _ (refuses c.pair_listed.ensures c.in-Err.is)
-    c.put_refusal.ensures
+    (rw c.number.ensures at c.put_refusal.ensures)

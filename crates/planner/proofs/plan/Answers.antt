@@ -51,7 +51,8 @@ returns c =
     let a = granted (goal.at.returns c).In_ok-request in
     let same = plan_same _ _ _ c.free_rows-free.ensures in
     let old = c.args.answers.now in record {
-      answers = gives_next _ c.in_ok-request.ensures (ap value (c.failing.ensures ∙ plan_fails _ _ a.bounds.horizon.1 _ old _ c.plan_all.ensures
+      answers = gives_next _ c.in_ok-request.ensures (ap value (c.failing.ensures.found ∙ plan_fails _ _ a.bounds.horizon.1 _ old _ c.plan_all.ensures
           ∙ ap failing_of same));
       stores = written_next _ c.in_ok-request.ensures (c.plan_all.ensures ∙ ap (λ (xs : List Answer). stored xs old) same);
+      counted = c.failing.ensures.counted;
     }

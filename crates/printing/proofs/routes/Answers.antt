@@ -1,5 +1,5 @@
 -- `printing::routes` meets its contract: the reader's answer decides between the routes and the refusal's line.
-use Rattle.printing.proofs.PrintLaws.{WasRead, was_read, was_refused, routes_accepted, routes_refused}
+use Rattle.printing.proofs.PrintLaws.{WasRead, was_read, was_refused, refusal_handed, routes_accepted, routes_refused}
 use Rattle.printing.proofs.routes.Goals as goal
 use Rattle.printing.proofs.routes.Goals.{In-Ok}
 
@@ -20,5 +20,6 @@ returns-in-Ok c =
 
 pub returns-in-Err : goal.returns-in-Err
 returns-in-Err c =
-    let both = routes_refused _ _ _ _ _ _ (was_refused _ _ c.no_walls-walls.ensures c.read.ensures.answers c.in-Err.is) c.print_refusal.ensures in
+    let put = refusal_handed _ _ _ _ _ _ c.number.ensures c.ok_or.ensures.value c.print_refusal.ensures in
+    let both = routes_refused _ _ _ _ _ _ (was_refused _ _ c.no_walls-walls.ensures c.read.ensures.answers c.in-Err.is) put in
     record { says = both.0; stores = both.1 }

@@ -15,4 +15,5 @@ returns c =
     let counts : length c.args.f.counts ≡ 8 = search rules in
     let docks : length c.args.f.docks ≡ 32 = search rules in
     let f = c.args.f in
-    four_blocks _ _ _ _ _ (f.width ∷ f.height ∷ f.horizon ∷ f.depth ∷ f.carriers ∷ f.walls ∷ []) f.starts f.counts f.docks c.copy.ensures c.copy-2.ensures c.copy-3.ensures c.copy-4.ensures refl starts counts docks c.requires
+    four_blocks _ _ _ _ _ (f.width ∷ f.height ∷ f.horizon ∷ f.depth ∷ f.carriers ∷ f.walls ∷ []) f.starts f.counts f.docks
+    c.copy.ensures c.copy-2.ensures c.copy-3.ensures c.copy-4.ensures refl starts counts docks c.requires

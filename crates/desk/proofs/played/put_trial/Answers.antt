@@ -65,4 +65,4 @@ returns-in-Ok c =
 pub returns-in-Err : goal.returns-in-Err
 returns-in-Err c =
     let t = refusal_told _ _ c.requires.walls_value _ _ _ (said (goal.at.returns-in-Err c).After-trial) _ c.in-Err.is in
-    refused_put _ _ _ _ _ _ _ _ _ t.0 c.put_refusal.ensures
+    refused_put _ _ _ _ _ _ _ _ _ t.0 (rw c.number.ensures at c.put_refusal.ensures)

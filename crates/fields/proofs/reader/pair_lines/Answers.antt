@@ -6,7 +6,7 @@ use borrow.Author.Rules.{rules}
 use Rattle.std.specs.Prelude.{Ok}
 use Rattle.laws.specs.Verdict.{◌gives◌}
 use Rattle.fields.specs.Form.{line_form, past_pair}
-use Rattle.fields.specs.Reached.{reached_of}
+use Rattle.fields.specs.Reached.{column_told}
 use Rattle.fields.proofs.ColumnLaws.{pair_near}
 use Rattle.fields.proofs.reader.pair_lines.Goals as goal
 
@@ -14,7 +14,7 @@ pub lines-requires : goal.lines-requires
 lines-requires c = record {
   longest = 11;
   near = λ b d p.
-      let e : reached_of (Ok d) ≡ (line_form c.args.text.now b 2 gives past_pair b) = search rules in
+      let e : column_told (Ok d) ≡ (line_form c.args.text.now b 2 gives past_pair b) = search rules in
       pair_near _ _ _ e;
   free = λ b l. let low : b ≤ 65000 = omega (arith, l, c.requires) in search rules;
 }

@@ -1,21 +1,10 @@
--- `floor::checks::walls_inside` meets its contract: invariant: the walls passed lie in the grid.
-use Rattle.laws.proofs.VerdictLaws.{tests}
-use Rattle.floor.specs.Checks.{walls_of}
-use Rattle.floor.specs.Answers.{verdict_of}
+-- `floor::checks::walls_inside` meets its contract: the tests in their order.
+use Prim.Native.Nat.{ℕ}
+use lib.ListN.{get_or}
+use borrow.Author.Rules.{rules}
+use Rattle.floor.specs.Checks.{in_grid, walls_of}
 use Rattle.floor.proofs.checks.walls_inside.Goals as goal
 
-pub loop-j-init : goal.loop-j-init
-unfolding verdict_of walls_of
-loop-j-init c = search tests
-
-pub returns-then-not-in_grid : goal.returns-then-not-in_grid
-unfolding verdict_of walls_of
-returns-then-not-in_grid c = search tests
-
-pub loop-j-preserved : goal.loop-j-preserved
-unfolding verdict_of walls_of
-loop-j-preserved c = search tests
-
 pub returns : goal.returns
-unfolding verdict_of walls_of
-returns c = search tests
+unfolding walls_of
+returns c = c.in_order.ensures (λ (j : ℕ). in_grid c.args.f (get_or c.args.walls.now j 0)) (λ i b l h. search rules)

@@ -9,11 +9,8 @@ pub returns-then-not-is_there : goal.returns-then-not-is_there
 unfolding single_verdict_in verdict_of
 returns-then-not-is_there c = then_no _ _ _ c.is_there.ensures c.if-not-is_there.true
 
-pub waits-requires : goal.waits-requires
-waits-requires c = record {
-  x_value = sym c.is_there.ensures ∙ c.if-not-is_there.false;
-  carriers_bound = c.requires;
-}
+pub waits-requires-clause-x_value : goal.waits-requires-clause-x_value
+waits-requires-clause-x_value c = sym c.is_there.ensures ∙ c.if-not-is_there.false
 
 pub returns : goal.returns
 unfolding single_verdict_in

@@ -13,4 +13,4 @@ returns c =
     let enough = c.requires in
     let two = field_next _ _ _ _ 0 5 _ c.put_field.ensures c.put_field-2.ensures refl (omega arith) in
     let three = field_next _ _ _ _ 0 10 _ two c.put_field-3.ensures refl (omega arith) in
-    rw (← c.number.ensures) (record { bytes = newline_next _ _ _ 0 15 three refl (omega arith); size = refl })
+    record { bytes = newline_next _ _ _ 0 15 three refl (omega arith); size = refl }

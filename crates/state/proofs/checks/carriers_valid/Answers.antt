@@ -6,4 +6,4 @@ use Rattle.encoding.specs.Valid.{carrier_valid}
 use Rattle.state.proofs.checks.carriers_valid.Goals as goal
 
 pub returns : goal.returns
-returns c = all_each _ (carrier_valid c.args.f c.args.m.now) refl c.all.ensures.ran (λ x b q k. search rules)
+returns c = all_each _ (carrier_valid c.args.s.now.floor c.args.s.now.memory.now) refl c.all.ensures.ran (λ x b q k. search rules)

@@ -8,9 +8,9 @@ use lib.ListN.{get_or}
 use Rattle.encoding.specs.Valid.{channel_valid, place_valid}
 use Rattle.state.proofs.checks.channel_valid.Goals as goal
 
-pub returns-then-count-f : goal.returns-then-count-f
+pub returns-then-count-s : goal.returns-then-count-s
 unfolding channel_valid
-returns-then-count-f c =
-    and_next _ _ (le-leb _ _ c.if-count-f.true)
-    (all_each 4 (place_valid c.args.f c.args.m.now (c.args.channel + 1) (get_or c.args.m.now c.args.channel 0)) refl
+returns-then-count-s c =
+    and_next _ _ (le-leb _ _ c.if-count-s.true)
+    (all_each 4 (place_valid c.args.s.now.floor c.args.s.now.memory.now (c.args.channel + 1) (get_or c.args.s.now.memory.now c.args.channel 0)) refl
     c.all.ensures.ran (λ x b q k. search rules))

@@ -8,4 +8,4 @@ use Rattle.encoding.specs.Valid.{pair_valid}
 use Rattle.state.proofs.checks.pairs_valid.Goals as goal
 
 pub returns : goal.returns
-returns c = all_each _ (λ (i : ℕ). each i (pair_valid c.args.f c.args.m.now i)) refl c.all.ensures.ran (λ x b q k. search rules)
+returns c = all_each _ (λ (i : ℕ). each i (pair_valid c.args.s.now.floor c.args.s.now.memory.now i)) refl c.all.ensures.ran (λ x b q k. search rules)

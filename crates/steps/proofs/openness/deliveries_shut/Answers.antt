@@ -6,4 +6,4 @@ use Rattle.steps.specs.Inner.{sender_shut}
 use Rattle.steps.proofs.openness.deliveries_shut.Goals as goal
 
 pub returns : goal.returns
-returns c = all_each _ (sender_shut c.args.f c.args.m.now) refl c.all.ensures.ran (λ x b q k. search rules)
+returns c = all_each _ (sender_shut c.args.s.now.floor c.args.s.now.memory.now) refl c.all.ensures.ran (λ x b q k. search rules)

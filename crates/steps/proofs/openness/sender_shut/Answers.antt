@@ -9,4 +9,4 @@ use Rattle.steps.proofs.openness.sender_shut.Goals as goal
 
 pub returns : goal.returns
 unfolding sender_shut delivery_shut shut_in step_meant
-returns c = all_each _ (delivery_shut c.args.f c.args.m.now c.args.j) refl c.all.ensures.ran (λ x b q k. search rules)
+returns c = all_each _ (delivery_shut c.args.s.now.floor c.args.s.now.memory.now c.args.j) refl c.all.ensures.ran (λ x b q k. search rules)

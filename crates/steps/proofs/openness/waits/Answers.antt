@@ -6,13 +6,12 @@ use Rattle.steps.proofs.openness.waits.Goals as goal
 pub plan_waits-requires : goal.plan_waits-requires
 unfolding step_meant
 plan_waits-requires c =
-    (plan_there _ _ (rw c.in-Plan.is at c.requires.x_value), c.requires.carriers_bound.0, c.requires.carriers_bound.1)
+    plan_there _ _ (rw c.in-Plan.is at c.requires.x_value)
 
 pub delivery_waits-requires : goal.delivery_waits-requires
 unfolding step_meant
 delivery_waits-requires c =
-    let there = deliver_there _ _ _ (rw c.in-Deliver.is at c.requires.x_value) in
-    (there.0, there.1, c.requires.carriers_bound.0, c.requires.carriers_bound.1)
+    deliver_there _ _ _ (rw c.in-Deliver.is at c.requires.x_value)
 
 pub returns-in-Plan : goal.returns-in-Plan
 unfolding step_meant

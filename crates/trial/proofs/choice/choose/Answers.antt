@@ -4,10 +4,8 @@ use Rattle.trial.specs.Inner.{chosen_in}
 use Rattle.trial.proofs.choice.choose.Goals as goal
 
 pub place_at-requires : goal.place_at-requires
-place_at-requires c = record {
-  i_bound = rw (← c.requires.candidates_value.0) (mod-lt c.turn.result c.requires.candidates_value.1);
-  carriers_bound = c.requires.carriers_bound;
-}
+place_at-requires c =
+    record { i_bound = rw (← c.requires.candidates_value.0) (mod-lt c.turn.result c.requires.candidates_value.1) }
 
 pub returns : goal.returns
 unfolding chosen_in

@@ -7,12 +7,8 @@ use Rattle.trial.proofs.ShownLaws.{chosen_opens}
 use Rattle.trial.proofs.EntryLaws.{advanced}
 use Rattle.trial.proofs.play.advance.Goals as goal
 
-pub choose-p-requires : goal.choose-p-requires
-choose-p-requires c = record {
-  candidates_value = c.requires.candidates_value;
-  kept_bound = c.requires.kept_bound;
-  carriers_bound = placed_sized c.requires.workable.placed;
-}
+pub invariant_of-now : goal.invariant_of-now
+invariant_of-now c = let sized = placed_sized c.requires.workable.placed in record { few = sized.0; whole = sized.1 }
 
 pub step_at-s-requires : goal.step_at-s-requires
 step_at-s-requires c =

@@ -18,10 +18,10 @@ loop-t-init c =
       rw c.start-c.ensures (playing_start _ _ _ _ _ _ c.requires.m_value),
     )
 
-pub count_open-candidates-requires : goal.count_open-candidates-requires
-count_open-candidates-requires c = record {
-  k_bound = omega (arith, c.count-all.ensures.0);
-  carriers_bound = ((placed_sized c.requires.workable.placed).0, omega (arith, c.loop-t.invariant.2.long, c.requires.workable.placed.enough));
+pub invariant_of-now : goal.invariant_of-now
+invariant_of-now c = record {
+  few = (placed_sized c.requires.workable.placed).0;
+  whole = omega (arith, c.loop-t.invariant.2.long, c.requires.workable.placed.enough);
 }
 
 pub shape_of-m-then-candidates-eq0 : goal.shape_of-m-then-candidates-eq0

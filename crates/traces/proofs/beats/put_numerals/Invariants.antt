@@ -1,0 +1,7 @@
+-- `traces::beats::put_numerals` meets its contract: the text stays in its memory.
+use mathlib.Core.Path.{◌≡◌}
+use Rattle.traces.proofs.beats.put_numerals.Given as goal
+
+abbrev pub invariant-loop-t : goal.invariant-loop-t
+invariant-loop-t l =
+    l.out.bytes.ghost_name ≡ l.initial.out.bytes.ghost_name
