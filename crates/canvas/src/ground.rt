@@ -1,11 +1,14 @@
 // The floor of a picture: its grid with labels, its walls, its docks.
-ghost use Rattle.std.specs.Prelude.{◌+◌, ◌≤◌, ◌<◌};
+ghost use Rattle.std.specs.Prelude.{◌≡◌, ◌+◌, ◌≤◌, ◌<◌, length};
 
 use crate::page::Page;
 use wording::Text;
 
 // Puts the labels of the columns, and of the rows.
-fn put_labels(page: Page, out: &mut Text<'_>) {
+fn put_labels(page: Page, out: &mut Text<'_>)
+    ensures same_memory { out.new.bytes.ghost_name ≡ out.old.bytes.ghost_name }
+    ensures same_length { length out.new.bytes.now ≡ length out.old.bytes.now }
+{
     for k in 0..page.columns {
         out.fill(
             b"<text x=\"%\" y=\"20\" text-anchor=\"middle\">%</text>\n",
@@ -21,7 +24,10 @@ fn put_labels(page: Page, out: &mut Text<'_>) {
 }
 
 // Puts the grid and its labels.
-pub fn put_grid(page: Page, out: &mut Text<'_>) {
+pub fn put_grid(page: Page, out: &mut Text<'_>)
+    ensures same_memory { out.new.bytes.ghost_name ≡ out.old.bytes.ghost_name }
+    ensures same_length { length out.new.bytes.now ≡ length out.old.bytes.now }
+{
     out.fill(
         b"<rect x=\"28\" y=\"28\" width=\"%\" height=\"%\" fill=\"url(#grid)\" stroke=\"#999\"/>\n<g font-size=\"11\" fill=\"#555\">\n",
         &[page.cells(page.columns), page.cells(page.rows)],
@@ -31,14 +37,20 @@ pub fn put_grid(page: Page, out: &mut Text<'_>) {
 }
 
 // Puts the square of a cell as a part of a path.
-fn put_square(page: Page, c: u16, out: &mut Text<'_>) {
+fn put_square(page: Page, c: u16, out: &mut Text<'_>)
+    ensures same_memory { out.new.bytes.ghost_name ≡ out.old.bytes.ghost_name }
+    ensures same_length { length out.new.bytes.now ≡ length out.old.bytes.now }
+{
     let (x, y) = page.corner_of(c);
     let side = page.side();
     out.fill(b"M% %h%v%h-%z", &[x, y, side, side, side]);
 }
 
 // Puts the walls.
-pub fn put_walls(page: Page, walls: &[u16], out: &mut Text<'_>) {
+pub fn put_walls(page: Page, walls: &[u16], out: &mut Text<'_>)
+    ensures same_memory { out.new.bytes.ghost_name ≡ out.old.bytes.ghost_name }
+    ensures same_length { length out.new.bytes.now ≡ length out.old.bytes.now }
+{
     out.put(b"<path fill=\"#444\" d=\"");
     for &wall in walls {
         put_square(page, wall, out);
@@ -77,6 +89,8 @@ fn stripe(page: Page, k: usize, all: usize) -> usize
 // Puts a dock of carrier i, counted from 0: the carrier's stripe of the cell, which is parted among all that have it.
 fn put_stripe(page: Page, i: usize, c: u16, before: usize, all: usize, out: &mut Text<'_>)
     requires { (i < 8) × (before ≤ 8) }
+    ensures same_memory { out.new.bytes.ghost_name ≡ out.old.bytes.ghost_name }
+    ensures same_length { length out.new.bytes.now ≡ length out.old.bytes.now }
 {
     let from = stripe(page, before, all);
     let to = stripe(page, before + 1, all);
@@ -88,14 +102,20 @@ fn put_stripe(page: Page, i: usize, c: u16, before: usize, all: usize, out: &mut
 }
 
 // Puts the edge of a dock.
-fn put_edge(page: Page, c: u16, out: &mut Text<'_>) {
+fn put_edge(page: Page, c: u16, out: &mut Text<'_>)
+    ensures same_memory { out.new.bytes.ghost_name ≡ out.old.bytes.ghost_name }
+    ensures same_length { length out.new.bytes.now ≡ length out.old.bytes.now }
+{
     out.put(b"<path d=\"");
     put_square(page, c, out);
     out.put(b"\" fill=\"none\" stroke=\"#222\" stroke-dasharray=\"4 3\"/>\n");
 }
 
 // Puts the docks of all carriers, four places each.
-pub fn put_docks(page: Page, docks: &[Option<u16>], out: &mut Text<'_>) {
+pub fn put_docks(page: Page, docks: &[Option<u16>], out: &mut Text<'_>)
+    ensures same_memory { out.new.bytes.ghost_name ≡ out.old.bytes.ghost_name }
+    ensures same_length { length out.new.bytes.now ≡ length out.old.bytes.now }
+{
     for p in 0..32 {
         if let Some(c) = dock(docks, p) {
             let i = p / 4;

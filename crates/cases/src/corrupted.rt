@@ -65,14 +65,12 @@ pub fn unfit(text: &[u8], setup: &[u16], m: &mut [u16]) -> Answer {
 
 // How many of all numbers get an answer as a step on a fresh state.
 pub fn numbers(text: &[u8], setup: &[u16], m: &mut [u16]) -> Answer {
+    let kind = field(text, 0);
+    let number = field(text, 1);
     let mut n: usize = 0;
     for x in 0..65536 {
         calls::fresh(setup, m);
-        if is_numbered(
-            calls::step(setup, m, narrow(x)),
-            field(text, 0),
-            field(text, 1),
-        ) {
+        if is_numbered(calls::step(setup, m, narrow(x)), kind, number) {
             n = n.saturating_add(1);
         }
     }

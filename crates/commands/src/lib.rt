@@ -1,5 +1,5 @@
 // Test code: the commands of a script that need no state of the machine, on sheets, searches and pairs of routes; the setup of numbers that
-// they are given, and an answer as one number.
+// they are given, and what they answer.
 #![tactic(auto)]
 
 pub mod answers;

@@ -207,7 +207,8 @@ pub fn write<W: Write, E: Write>(
     }
 }
 
-// What a program, its input and its output are called where something is said of them.
+// What a program, its input and its output are called where something is said of them. The program's name has its colon and its space
+// behind it, as it stands in front of words; it is empty where the words begin with it, so that they are said in one piece.
 #[derive(Clone, Copy)]
 pub struct Names<'a> {
     pub program: &'a [u8],
@@ -216,7 +217,7 @@ pub struct Names<'a> {
 }
 
 // Reads the input, or its first 65,536 bytes, has a text told for it, and writes that text to the output. Where words are told in place of
-// a text, they are said under the program's name; a failure is said too.
+// a text, they are said behind the program's name; a failure is said too.
 pub fn through<'a, R: Read, W: Write, E: Write, T: FnOnce(&[u8]) -> Result<&'a [u8], &'a [u8]>>(
     reader: &mut R,
     writer: &mut W,
@@ -234,7 +235,6 @@ pub fn through<'a, R: Read, W: Write, E: Write, T: FnOnce(&[u8]) -> Result<&'a [
         Ok(text) => write(writer, errors, names.output, text),
         Err(words) => {
             let _ = errors.write_all(names.program);
-            let _ = errors.write_all(b": ");
             let _ = errors.write_all(words);
             Ok(())
         }

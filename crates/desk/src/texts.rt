@@ -19,7 +19,14 @@ use std::io::{Read, Write};
 
 // What the program, its input and its output are called.
 pub const DESK: Names<'static> = Names {
-    program: b"desk",
+    program: b"desk: ",
+    input: b"desk: standard input",
+    output: b"desk: standard output",
+};
+
+// The same where the words are a line of their own, said in one piece.
+const LINE: Names<'static> = Names {
+    program: b"",
     input: b"desk: standard input",
     output: b"desk: standard output",
 };
@@ -140,10 +147,10 @@ pub fn draw_beat<R: Read, W: Write, E: Write>(
 {
     let mut room = [0u8; frames::BEAT_LENGTH];
     let out = &mut room;
-    through(reader, writer, errors, DESK, move |text| {
+    through(reader, writer, errors, LINE, move |text| {
         let n = frames::print_beat(text, t, out);
         if n == 0 {
-            return Err(b"the beat is above the horizon\n");
+            return Err(b"desk: the beat is above the horizon\n");
         }
         Ok(&out[..n])
     })

@@ -1,16 +1,12 @@
 -- Walls that rise are strictly rising, and what a binary search among strictly rising numbers knows:
 -- at its start, after each turn and at its end.
-use Prim.Native.Nat.{ℕ, suc, zero, ◌+◌, ◌≤◌, ◌<◌}
+use Prim.Native.Nat.{ℕ, suc, zero, ◌≤◌, ◌<◌}
 use native.Mathlib.Omega.{arith}
 use native.Mathlib.Nat.{le_of_suc-le-suc, eq-or-lt_of_le}
 use mathlib.Core.Path.{◌≡◌, refl, sym}
-use mathlib.Core.Bool.{Bool, true, false}
 use mathlib.Core.Logic.{⊎_elim}
 use mathlib.Core.List.{List}
-use borrow.Author.Count.{below_more}
-use borrow.Author.Tests.{eqb-true, eqb-false}
 use lib.ListN.{get_or}
-use lib.Dec.{eqb}
 use Rattle.std.specs.Prelude.{Result, Ok, Err, take, length, is_ok, MatchResult}
 use Rattle.std.specs.List.Sorted.{IsBinarySearchResult}
 use Rattle.std.proofs.lemmas.List.{length-take-le, get_or-take}

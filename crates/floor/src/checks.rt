@@ -25,12 +25,18 @@ pub fn check_length(needed: usize, lent: usize) -> Result<(), Refusal>
     Ok(())
 }
 
-// Whether c is among the first k of xs.
+// Whether c is among the first k of xs. A loop of its own: of eight numbers at most, on which the library's `contains` takes longer to get
+// ready than to look.
 fn among(xs: &[u16], k: usize, c: u16) -> bool
     requires { k ≤ length xs.now }
     ensures { result ≡ among xs.now k c }
 {
-    xs[..k].contains(&c)
+    for i in 0..k {
+        if xs[i] == c {
+            return true;
+        }
+    }
+    false
 }
 
 // Whether a cell number lies in the grid.
@@ -45,6 +51,14 @@ fn in_grid(f: Floor, c: u16) -> bool
 pub fn docks_of(f: Floor, i: usize) -> [u16; 4]
     requires { i < 8 }
     ensures { result ≡ docks_of f i }
+{
+    four_docks(&f, i)
+}
+
+// The same of a floor that is not copied.
+fn four_docks(f: &Floor, i: usize) -> [u16; 4]
+    requires { i < 8 }
+    ensures { result ≡ docks_of f.now i }
 {
     let at = 4 * i;
     [
@@ -235,13 +249,11 @@ fn clear(f: Floor, walls: &[u16]) -> Result<(), Refusal>
 }
 
 // Whether no carrier before carrier i has its start.
-fn unshared(f: Floor, i: usize) -> bool
+fn unshared(f: &Floor, i: usize) -> bool
     requires { i < 8 }
-    ensures { result ≡ unshared f i }
+    ensures { result ≡ unshared f.now i }
 {
-    let starts = f.starts;
-    let start = starts[i];
-    !among(&starts, i, start)
+    !among(&f.starts, i, f.starts[i])
 }
 
 // 6: no two carriers share a start.
@@ -253,17 +265,17 @@ fn distinct(f: Floor) -> Result<(), Refusal>
         f.carriers as usize,
         Reason::SharedStart,
         1,
-        |i| unshared(f, i),
+        |i| unshared(&f, i),
     )
 }
 
 // Whether no dock of carrier i stands before in its list.
-fn unrepeated(f: Floor, i: usize) -> bool
+fn unrepeated(f: &Floor, i: usize) -> bool
     requires i_bound { i < 8 }
-    requires i_bound_2 { count_of f i ≤ 4 }
-    ensures { result ≡ unrepeated f i }
+    requires i_bound_2 { count_of f.now i ≤ 4 }
+    ensures { result ≡ unrepeated f.now i }
 {
-    let docks = docks_of(f, i);
+    let docks = four_docks(f, i);
     let n = f.counts[i] as usize;
     for k in 0..n {
         if among(&docks, k, docks[k]) {
@@ -283,7 +295,7 @@ fn all_unrepeated(f: Floor) -> Result<(), Refusal>
         f.carriers as usize,
         Reason::RepeatedDock,
         1,
-        |i| unrepeated(f, i),
+        |i| unrepeated(&f, i),
     )
 }
 
@@ -298,6 +310,7 @@ pub fn places(f: Floor, walls: &[u16]) -> Result<(), Refusal>
     walls_inside(f, walls)?;
     rising(f, walls)?;
     clear(f, walls)?;
-    distinct(f)?;
+    let apart = distinct(f);
+    apart?;
     all_unrepeated(f)
 }

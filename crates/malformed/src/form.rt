@@ -1,5 +1,5 @@
 // Refusal 1 in words: what is wrong with the form of a sheet at a byte.
-ghost use Rattle.std.specs.Prelude.{◌≤◌, IfSome};
+ghost use Rattle.std.specs.Prelude.{◌≡◌, ◌≤◌, IfSome, length};
 
 use positions::{position, sheet_line};
 use wording::Text;
@@ -36,7 +36,10 @@ fn has_space(text: &[u8], at: usize, place: usize) -> bool
 }
 
 // Puts that field k has a byte that may not stand in it.
-fn put_foreign(k: usize, byte: u8, out: &mut Text<'_>) {
+fn put_foreign(k: usize, byte: u8, out: &mut Text<'_>)
+    ensures same_memory { out.new.bytes.ghost_name ≡ out.old.bytes.ghost_name }
+    ensures same_length { length out.new.bytes.now ≡ length out.old.bytes.now }
+{
     match byte {
         b'\n' => out.fill(b"field % has a newline in it", &[k]),
         b'\r' => out.fill(b"field % has a carriage return in it", &[k]),
@@ -47,7 +50,10 @@ fn put_foreign(k: usize, byte: u8, out: &mut Text<'_>) {
 }
 
 // The same of a byte that is shown.
-fn put_character(k: usize, byte: u8, out: &mut Text<'_>) {
+fn put_character(k: usize, byte: u8, out: &mut Text<'_>)
+    ensures same_memory { out.new.bytes.ghost_name ≡ out.old.bytes.ghost_name }
+    ensures same_length { length out.new.bytes.now ≡ length out.old.bytes.now }
+{
     if byte.is_ascii_alphabetic() {
         out.fill(b"field % has the letter ", &[k]);
     } else {
@@ -57,7 +63,10 @@ fn put_character(k: usize, byte: u8, out: &mut Text<'_>) {
 }
 
 // Puts that the field at a column, in good form, is no dock count.
-fn put_count(text: &[u8], at: usize, out: &mut Text<'_>) {
+fn put_count(text: &[u8], at: usize, out: &mut Text<'_>)
+    ensures same_memory { out.new.bytes.ghost_name ≡ out.old.bytes.ghost_name }
+    ensures same_length { length out.new.bytes.now ≡ length out.old.bytes.now }
+{
     out.fill(
         b"the dock count is %, it must be 1 to 4",
         &[sheet_line::number_at(text, at)],
@@ -67,6 +76,8 @@ fn put_count(text: &[u8], at: usize, out: &mut Text<'_>) {
 // Puts what is wrong with field k, which stands at a column.
 fn put_bad_field(text: &[u8], at: usize, k: usize, out: &mut Text<'_>)
     requires { at ≤ 65535 }
+    ensures same_memory { out.new.bytes.ghost_name ≡ out.old.bytes.ghost_name }
+    ensures same_length { length out.new.bytes.now ≡ length out.old.bytes.now }
 {
     if let Some(byte) = foreign(text, at) {
         return put_foreign(k, byte, out);
@@ -86,6 +97,8 @@ fn put_bad_field(text: &[u8], at: usize, k: usize, out: &mut Text<'_>)
 // Puts what stands where a newline should, behind field k.
 fn put_no_newline(text: &[u8], at: usize, k: usize, out: &mut Text<'_>)
     requires { at ≤ 65535 }
+    ensures same_memory { out.new.bytes.ghost_name ≡ out.old.bytes.ghost_name }
+    ensures same_length { length out.new.bytes.now ≡ length out.old.bytes.now }
 {
     match (field_byte(text, at, 0), field_byte(text, at, 1)) {
         (b'\r', b'\n') => out.put(b"a carriage return stands before the newline"),
@@ -98,6 +111,8 @@ fn put_no_newline(text: &[u8], at: usize, k: usize, out: &mut Text<'_>)
 // Puts what is wrong with the form of a sheet at a byte.
 pub fn put_reason(text: &[u8], at: usize, out: &mut Text<'_>)
     requires { at ≤ 65535 }
+    ensures same_memory { out.new.bytes.ghost_name ≡ out.old.bytes.ghost_name }
+    ensures same_length { length out.new.bytes.now ≡ length out.old.bytes.now }
 {
     let position = position::position_at(text, at);
     let column = position.column;

@@ -1,19 +1,16 @@
 -- Laws of lines and columns, and of a position in words.
-use Prim.Native.Nat.{ℕ, ◌+◌, ◌*◌, ◌≤◌}
+use Prim.Native.Nat.{ℕ, ◌+◌, ◌≤◌}
 use native.Mathlib.Omega.{arith}
 use native.Mathlib.Numerals.{add-one}
 use mathlib.Core.List.{List}
 use mathlib.Core.Path.{◌≡◌, refl, ◌∙◌}
 use lib.ListN.{length, get_or, length-append}
-use Rattle.floor.specs.declared.Reason.{Reason}
-use Rattle.floor.specs.declared.Reason.TheVariants.{Form, Limits, WallOrder, SharedStart}
-use Rattle.floor.specs.Answers.{number_of}
 use Rattle.reporting.specs.Put.{PutAt}
 use Rattle.reporting.proofs.ReportLaws.{put_behind}
 use Rattle.wording.specs.Decimal.{decimal}
 use Rattle.wording.proofs.DecimalLaws.{decimal_short}
 use Rattle.positions.specs.declared.position.LineColumn.{LineColumn}
-use Rattle.positions.specs.Position.{line_at, column_at, line_of_refusal, column_of_refusal, line_word, column_word, colon, position_text}
+use Rattle.positions.specs.Position.{line_at, column_at, line_word, column_word, colon, position_text}
 use Rattle.positions.specs.Inner.{Follows, StandsIn}
 
 -- A loop over the bytes before one: in front of the text, and behind one more byte.
@@ -32,23 +29,6 @@ position_more {text} {k} {byte} {x} {y} old e new =
       low_line = omega (arith, new.low_line, old.low_line);
       low_column = omega (arith, new.low_column, old.low_column);
     })
-
--- The line and the column of the refusals of an item.
-pub line_of_item : (r : Reason) (text : List ℕ) (place : ℕ) → (r ≡ Form → ⊥) → (r ≡ Limits → ⊥)
-    → line_of_refusal text (number_of r) place ≡ place + 1
-unfolding line_of_refusal
-line_of_item Form text place f l = absurd (f refl)
-line_of_item Limits text place f l = absurd (l refl)
-line_of_item _ text place f l = refl
-
-pub column_of_item : (r : Reason) (text : List ℕ) (place field : ℕ) → (r ≡ Form → ⊥) → (r ≡ Limits → ⊥) → (r ≡ WallOrder → ⊥)
-    → (r ≡ SharedStart → ⊥) → column_of_refusal text (number_of r) place field ≡ 5 * field + 1
-unfolding column_of_refusal
-column_of_item Form text place field f l w s = absurd (f refl)
-column_of_item Limits text place field f l w s = absurd (l refl)
-column_of_item WallOrder text place field f l w s = absurd (w refl)
-column_of_item SharedStart text place field f l w s = absurd (s refl)
-column_of_item _ text place field f l w s = refl
 
 -- The words of a position, put piece by piece.
 pub position_put : (line column n₁ n₂ n₃ n₄ n : ℕ) (old m₁ m₂ m₃ m₄ new : List ℕ) → PutAt line_word old 0 m₁ n₁ →

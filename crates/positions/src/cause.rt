@@ -4,7 +4,6 @@ ghost use Rattle.std.specs.Prelude.{◌≡◌, ◌+◌, ◌*◌, ◌≤◌, leng
 ghost use Rattle.fields.specs.Field.{number_at};
 
 use crate::sheet_line;
-use floor::{Reason, Refusal};
 
 // The column at which the line of an item begins.
 pub fn item_start(text: &[u8], item: usize) -> usize
@@ -97,16 +96,16 @@ fn repeated_field(text: &[u8], start: usize) -> usize
     0
 }
 
-// The field of an item's line that is the cause of a refusal.
-pub fn cause(text: &[u8], x: Refusal) -> usize
-    requires { x.place ≤ 99999 }
+// The field of an item's line that is the cause of a refusal. Kept by its number, as in `position`.
+pub fn cause(text: &[u8], number: u16, item: usize) -> usize
+    requires { item ≤ 99999 }
     ensures { result ≤ 10 }
 {
-    let start = item_start(text, x.place);
-    match x.reason {
-        Reason::OutsideGrid => outside_field(text, start),
-        Reason::OnWall => wall_field(text, start),
-        Reason::RepeatedDock => repeated_field(text, start),
+    let start = item_start(text, item);
+    match number {
+        3 => outside_field(text, start),
+        5 => wall_field(text, start),
+        17 => repeated_field(text, start),
         _ => 0,
     }
 }

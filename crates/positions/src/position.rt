@@ -1,11 +1,9 @@
 // Lines and columns of a text, counted from 1, and the position of a refusal in words.
 ghost use Rattle.std.specs.Prelude.{◌≡◌, suc, ◌+◌, ◌-◌, ◌*◌, ◌≤◌, length, get_or};
-ghost use Rattle.floor.specs.Answers.{number_of};
 ghost use Rattle.reporting.specs.Put.{PutAt};
 ghost use Rattle.positions.specs.Position.{line_of_refusal, column_of_refusal, position_text};
 ghost use Rattle.positions.specs.Inner.{Follows, StandsIn};
 
-use floor::{Reason, Refusal};
 use reporting::put_bytes;
 
 // A byte of a text; 0 past its end.
@@ -51,16 +49,15 @@ pub fn position_at(text: &[u8], at: usize) -> LineColumn
     position
 }
 
-// The line of a refusal.
-#[tactic(auto, using(crate::proofs::PositionLaws::line_of_item), unfolding(crate::specs::Position::line_of_refusal))]
-pub fn line_of(text: &[u8], x: Refusal) -> usize
-    requires { x.place ≤ 65535 }
-    ensures { (result ≡ line_of_refusal text.now (number_of x.reason) x.place) × (result ≤ 65536) }
+// The line of a refusal. Kept by its number, here and below, and not by a `floor::Reason`: it is told for every number, as it was.
+pub fn line_of(text: &[u8], number: u16, place: usize) -> usize
+    requires { place ≤ 65535 }
+    ensures { (result ≡ line_of_refusal text.now number place) × (result ≤ 65536) }
 {
-    match x.reason {
-        Reason::Form => position_at(text, x.place).line,
-        Reason::Limits => 1,
-        _ => x.place + 1,
+    match number {
+        1 => position_at(text, place).line,
+        2 => 1,
+        _ => place + 1,
     }
 }
 
@@ -73,15 +70,14 @@ fn field_column(field: usize) -> usize
 }
 
 // The column of a refusal; of 3, 5 and 17 that of the field of the item's line that is the cause.
-#[tactic(auto, using(crate::proofs::PositionLaws::column_of_item), unfolding(crate::specs::Position::column_of_refusal))]
-pub fn column_of(text: &[u8], x: Refusal, field: usize) -> usize
-    requires { (x.place ≤ 65535) × (field ≤ 10) }
-    ensures { (result ≡ column_of_refusal text.now (number_of x.reason) x.place field) × (result ≤ 400000) }
+pub fn column_of(text: &[u8], number: u16, place: usize, field: usize) -> usize
+    requires { (place ≤ 65535) × (field ≤ 10) }
+    ensures { (result ≡ column_of_refusal text.now number place field) × (result ≤ 400000) }
 {
-    match x.reason {
-        Reason::Form => position_at(text, x.place).column,
-        Reason::Limits => field_column(x.place),
-        Reason::WallOrder | Reason::SharedStart => 1,
+    match number {
+        1 => position_at(text, place).column,
+        2 => field_column(place),
+        4 | 6 => 1,
         _ => 5 * field + 1,
     }
 }

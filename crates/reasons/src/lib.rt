@@ -92,8 +92,9 @@ fn put_refused(text: &[u8], x: Refusal, field: usize, out: &mut [u8]) -> usize
 {
     let mut reason = [0u8; REASON_LENGTH];
     let n = put_reason(text, x, field, &mut reason);
-    let line = position::line_of(text, x);
-    let column = position::column_of(text, x, field);
+    let number = x.number();
+    let line = position::line_of(text, number, x.place);
+    let column = position::column_of(text, number, x.place, field);
     let at = position::put_position(line, column, out);
     put_bytes(out, at, &reason[..n])
 }
@@ -146,7 +147,7 @@ fn put_text(text: &[u8], x: Refusal, out: &mut [u8]) -> usize
 {
     match x.reason {
         Reason::Form if x.place == text.len() => put_end(text, x.place, out),
-        _ => put_refused(text, x, cause::cause(text, x), out),
+        _ => put_refused(text, x, cause::cause(text, x.number(), x.place), out),
     }
 }
 

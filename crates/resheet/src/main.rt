@@ -22,7 +22,7 @@ const SHEET_LENGTH: usize = 11732;
 
 // What the program, its input and its output are called.
 const RESHEET: Names<'static> = Names {
-    program: b"resheet",
+    program: b"resheet: ",
     input: b"resheet: standard input",
     output: b"resheet: standard output",
 };

@@ -16,7 +16,7 @@ const TEXT_LENGTH: usize = 2659;
 
 // What the program, its input and its output are called.
 const ROUTES: Names<'static> = Names {
-    program: b"routes",
+    program: b"routes: ",
     input: b"routes: standard input",
     output: b"routes: standard output",
 };

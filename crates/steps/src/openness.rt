@@ -107,7 +107,8 @@ fn plan_waits(s: &State, i: usize) -> Result<(), Refusal>
     requires { i < s.now.floor.carriers }
     ensures { verdict_of result ≡ waits_in (bare s.now.floor) s.now.memory.now (plan i) }
 {
-    due_waits(s, i)?;
+    let due = due_waits(s, i);
+    due?;
     capacity_waits(s, i)
 }
 

@@ -18,10 +18,15 @@ fn skip(text: &[u8], from: usize, digits: bool) -> usize {
 
 // The place of number k, from 0, of a line, or its end where it has fewer.
 fn place(text: &[u8], k: usize) -> usize {
-    (0..k).fold(
-        skip(text, 0, false),
-        |i, _| skip(text, skip(text, i, true), false),
-    )
+    let mut i = skip(text, 0, false);
+    for _ in 0..k {
+        let next = skip(text, skip(text, i, true), false);
+        if next == i {
+            break;
+        }
+        i = next;
+    }
+    i
 }
 
 // Where a line ends: none has 1,000 numbers.

@@ -102,5 +102,11 @@ pub fn same<T: Item>(xs: &[T], ys: &[T]) -> bool {
 
 // Eight numbers of a memory, the first at a place and each a stride behind the one before.
 pub fn eight(m: &[u16], from: usize, stride: usize) -> [u16; 8] {
-    [0, 1, 2, 3, 4, 5, 6, 7].map(|n| at(m, strided(from, stride, n)))
+    let mut numbers = [0; 8];
+    let mut place = from;
+    for number in &mut numbers {
+        *number = at(m, place);
+        place = plus(place, stride);
+    }
+    numbers
 }

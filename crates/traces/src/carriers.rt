@@ -1,5 +1,5 @@
 // What a picture has for each carrier: its words, its trace, its body at the start, its body that moves, its line in the legend.
-ghost use Rattle.std.specs.Prelude.{◌≡◌, ◌≤◌};
+ghost use Rattle.std.specs.Prelude.{◌≡◌, ◌≤◌, length};
 
 use crate::beats;
 use canvas::answers::Carrier;
@@ -17,6 +17,8 @@ pub fn put_all<F: Fn(Carrier<'_>, &mut Text<'_>)>(
     requires { F.IsAlwaysCallable put }
     ensures same_memory { ((c : _) (a b : _) → F.post put c a tt b → b.now.bytes.ghost_name ≡ a.now.bytes.ghost_name)
         → out.new.bytes.ghost_name ≡ out.old.bytes.ghost_name }
+    ensures same_length { ((c : _) (a b : _) → F.post put c a tt b → length b.now.bytes.now ≡ length a.now.bytes.now)
+        → length out.new.bytes.now ≡ length out.old.bytes.now }
 {
     for place in 0..(page.carriers as usize).min(8) {
         let carrier = Carrier {
@@ -31,6 +33,7 @@ pub fn put_all<F: Fn(Carrier<'_>, &mut Text<'_>)>(
 // Puts the arrival of a carrier in words, for readers who hear the picture.
 pub fn put_words(carrier: Carrier<'_>, out: &mut Text<'_>)
     ensures same_memory { out.new.bytes.ghost_name ≡ out.old.bytes.ghost_name }
+    ensures same_length { length out.new.bytes.now ≡ length out.old.bytes.now }
 {
     let name = carrier.place + 1;
     if carrier.has_route() {
@@ -50,6 +53,7 @@ fn last_beat(carrier: Carrier<'_>) -> usize
 // Puts the trace of a carrier that has a route, and a dot where it ends.
 pub fn put_trace(carrier: Carrier<'_>, out: &mut Text<'_>)
     ensures same_memory { out.new.bytes.ghost_name ≡ out.old.bytes.ghost_name }
+    ensures same_length { length out.new.bytes.now ≡ length out.old.bytes.now }
 {
     if !carrier.has_route() {
         return;
@@ -68,6 +72,7 @@ pub fn put_trace(carrier: Carrier<'_>, out: &mut Text<'_>)
 // Puts the opening of a body's group, at its start.
 fn put_start(carrier: Carrier<'_>, out: &mut Text<'_>)
     ensures same_memory { out.new.bytes.ghost_name ≡ out.old.bytes.ghost_name }
+    ensures same_length { length out.new.bytes.now ≡ length out.old.bytes.now }
 {
     let (x, y) = carrier.page.middle_of(carrier.cell(0));
     out.fill(b"<g transform=\"translate(% %)\">", &[x, y]);
@@ -76,6 +81,7 @@ fn put_start(carrier: Carrier<'_>, out: &mut Text<'_>)
 // Puts a body and the end of its group.
 fn put_body(carrier: Carrier<'_>, out: &mut Text<'_>)
     ensures same_memory { out.new.bytes.ghost_name ≡ out.old.bytes.ghost_name }
+    ensures same_length { length out.new.bytes.now ≡ length out.old.bytes.now }
 {
     let name = carrier.place + 1;
     if carrier.page.small {
@@ -94,6 +100,7 @@ fn put_body(carrier: Carrier<'_>, out: &mut Text<'_>)
 // Puts the body of a carrier that has a route, at its start.
 pub fn put_still(carrier: Carrier<'_>, out: &mut Text<'_>)
     ensures same_memory { out.new.bytes.ghost_name ≡ out.old.bytes.ghost_name }
+    ensures same_length { length out.new.bytes.now ≡ length out.old.bytes.now }
 {
     if carrier.has_route() {
         put_start(carrier, out);
@@ -104,6 +111,7 @@ pub fn put_still(carrier: Carrier<'_>, out: &mut Text<'_>)
 // Puts the movement of a carrier: its places at all beats, the last two more times.
 fn put_movement(carrier: Carrier<'_>, out: &mut Text<'_>)
     ensures same_memory { out.new.bytes.ghost_name ≡ out.old.bytes.ghost_name }
+    ensures same_length { length out.new.bytes.now ≡ length out.old.bytes.now }
 {
     let page = carrier.page;
     let (x, y) = page.middle_of(carrier.cell(0));
@@ -121,6 +129,7 @@ fn put_movement(carrier: Carrier<'_>, out: &mut Text<'_>)
 // Puts the body of a carrier that has a route, moving.
 pub fn put_moving(carrier: Carrier<'_>, out: &mut Text<'_>)
     ensures same_memory { out.new.bytes.ghost_name ≡ out.old.bytes.ghost_name }
+    ensures same_length { length out.new.bytes.now ≡ length out.old.bytes.now }
 {
     if carrier.has_route() {
         put_start(carrier, out);
@@ -132,6 +141,7 @@ pub fn put_moving(carrier: Carrier<'_>, out: &mut Text<'_>)
 // Puts the body of a carrier that has no route, at its start and hatched.
 pub fn put_stranded(carrier: Carrier<'_>, out: &mut Text<'_>)
     ensures same_memory { out.new.bytes.ghost_name ≡ out.old.bytes.ghost_name }
+    ensures same_length { length out.new.bytes.now ≡ length out.old.bytes.now }
 {
     if carrier.has_route() {
         return;
@@ -150,6 +160,7 @@ pub fn put_stranded(carrier: Carrier<'_>, out: &mut Text<'_>)
 // Puts the line of a carrier in the legend.
 pub fn put_line(carrier: Carrier<'_>, out: &mut Text<'_>)
     ensures same_memory { out.new.bytes.ghost_name ≡ out.old.bytes.ghost_name }
+    ensures same_length { length out.new.bytes.now ≡ length out.old.bytes.now }
 {
     let name = carrier.place + 1;
     let x = carrier.page.legend();

@@ -82,6 +82,7 @@ impl<'a> Text<'a> {
     // Puts bytes, if they fit.
     pub fn put(&mut self, bytes: &[u8])
         ensures same_memory { self.new.bytes.ghost_name ≡ self.old.bytes.ghost_name }
+        ensures same_length { length self.new.bytes.now ≡ length self.old.bytes.now }
         ensures puts { PutIfRoom (length bytes.now) bytes.now self.old.bytes.now self.old.at self.new.bytes.now self.new.at }
     {
         let length = self.bytes.len();
@@ -93,6 +94,7 @@ impl<'a> Text<'a> {
     // Puts a number, if it has at most five digits and there is room for five.
     pub fn put_number(&mut self, n: usize)
         ensures same_memory { self.new.bytes.ghost_name ≡ self.old.bytes.ghost_name }
+        ensures same_length { length self.new.bytes.now ≡ length self.old.bytes.now }
         ensures puts { n < 100000 → PutIfRoom 5 (decimal n) self.old.bytes.now self.old.at self.new.bytes.now self.new.at }
         ensures leaves { 100000 ≤ n → (self.new.bytes.now ≡ self.old.bytes.now) × (self.new.at ≡ self.old.at) }
     {
@@ -105,6 +107,7 @@ impl<'a> Text<'a> {
     // Puts a pattern, of which 4,096 bytes at most are read, with numbers in the places of its `%`, and 0 where there are no more numbers.
     pub fn fill(&mut self, pattern: &[u8], numbers: &[usize])
         ensures same_memory { self.new.bytes.ghost_name ≡ self.old.bytes.ghost_name }
+        ensures same_length { length self.new.bytes.now ≡ length self.old.bytes.now }
     {
         let mut left = numbers.iter();
         for &byte in pattern.iter().take(4096) {
@@ -119,6 +122,7 @@ impl<'a> Text<'a> {
     // Puts how many things there are, by a sentence for one and a pattern for several.
     pub fn put_count(&mut self, n: usize, one: &[u8], several: &[u8])
         ensures same_memory { self.new.bytes.ghost_name ≡ self.old.bytes.ghost_name }
+        ensures same_length { length self.new.bytes.now ≡ length self.old.bytes.now }
         ensures one { n ≡ 1 → PutIfRoom (length one.now) one.now self.old.bytes.now self.old.at self.new.bytes.now self.new.at }
     {
         if n == 1 {

@@ -13,5 +13,5 @@ pub returns : goal.returns
 returns c =
     let placed = c.put_position-at.ensures in
     let low = position_low _ _ _ _ _ placed in
-    rw (← c.line_of-line.ensures.0, ← c.column_of-column.ensures.0)
+    rw (← c.number-number.ensures, ← c.line_of-line.ensures.0, ← c.column_of-column.ensures.0)
     (begins_put _ _ _ _ _ _ _ placed c.put_bytes.ensures (omega (arith, c.requires.2)))

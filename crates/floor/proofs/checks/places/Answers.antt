@@ -27,13 +27,15 @@ pub returns-in_err-clear : goal.returns-in_err-clear
 unfolding places_of
 returns-in_err-clear c = search (chain, c.in_ok-carriers_inside.ensures, c.in_ok-walls_inside.ensures, c.in_ok-rising.ensures, c.in_err-clear.ensures) depth 7
 
-pub returns-in_err-distinct : goal.returns-in_err-distinct
+pub returns-in_err-apart : goal.returns-in_err-apart
 unfolding places_of
-returns-in_err-distinct c = search (chain, c.in_ok-carriers_inside.ensures, c.in_ok-walls_inside.ensures, c.in_ok-rising.ensures, c.in_ok-clear.ensures, c.in_err-distinct.ensures) depth 7
+returns-in_err-apart c =
+    let apart = rw c.in_err-apart.was at c.distinct-apart.ensures in
+    search (chain, c.in_ok-carriers_inside.ensures, c.in_ok-walls_inside.ensures, c.in_ok-rising.ensures, c.in_ok-clear.ensures, apart) depth 7
 
 pub all_unrepeated-requires-clause-counts_within : goal.all_unrepeated-requires-clause-counts_within
 all_unrepeated-requires-clause-counts_within c = passed_counted _ (met_passed c.in_ok-carriers_inside.ensures)
 
 pub returns : goal.returns
 unfolding places_of
-returns c = search (chain, c.in_ok-carriers_inside.ensures, c.in_ok-walls_inside.ensures, c.in_ok-rising.ensures, c.in_ok-clear.ensures, c.in_ok-distinct.ensures) depth 7
+returns c = search (chain, c.in_ok-carriers_inside.ensures, c.in_ok-walls_inside.ensures, c.in_ok-rising.ensures, c.in_ok-clear.ensures, rw c.in_ok-apart.was at c.distinct-apart.ensures) depth 7

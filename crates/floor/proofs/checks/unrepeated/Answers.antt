@@ -17,16 +17,16 @@ bounds-docks-k c = search rules
 pub among-requires : goal.among-requires
 unfolding count_of
 among-requires c =
-    let e : length c.docks_of-docks.result ≡ 4 = search rules in
+    let e : length c.four_docks-docks.result ≡ 4 = search rules in
     search rules
 
 pub returns-then-among : goal.returns-then-among
 unfolding unrepeated count_of dock_of
-returns-then-among c = rw (← c.docks_of-docks.ensures) (search hold_turn)
+returns-then-among c = rw (← c.four_docks-docks.ensures) (search hold_turn)
 
 pub loop-k-preserved : goal.loop-k-preserved
 loop-k-preserved c = hold_more _ _ c.loop-k.invariant (not_holds c.among.ensures c.if-among.false)
 
 pub returns : goal.returns
 unfolding unrepeated count_of dock_of
-returns c = rw (← c.docks_of-docks.ensures) (search hold_turn)
+returns c = rw (← c.four_docks-docks.ensures) (search hold_turn)

@@ -8,7 +8,7 @@ use borrow.Author.Rules.{rules}
 use Rattle.floor.proofs.checks.unshared.Goals as goal
 
 pub among-requires : goal.among-requires
-among-requires c = let e : length c.args.f.starts ≡ 8 = search rules in omega arith
+among-requires c = let e : length c.args.f.now.starts ≡ 8 = search rules in omega arith
 
 pub returns : goal.returns
 unfolding unshared start_of

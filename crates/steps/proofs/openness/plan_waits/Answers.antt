@@ -5,10 +5,10 @@ use Rattle.encoding.specs.InnerSteps.{waits_in}
 use Rattle.steps.specs.Inner.{bare}
 use Rattle.steps.proofs.openness.plan_waits.Goals as goal
 
-pub returns-in_err-due_waits : goal.returns-in_err-due_waits
+pub returns-in_err-due : goal.returns-in_err-due
 unfolding waits_in bare machine_of
-returns-in_err-due_waits c = search (chain, c.in_err-due_waits.ensures) depth 7
+returns-in_err-due c = search (chain, rw c.in_err-due.was at c.due_waits-due.ensures) depth 7
 
 pub returns : goal.returns
 unfolding waits_in bare machine_of
-returns c = search (chain, c.in_ok-due_waits.ensures) depth 7
+returns c = search (chain, rw c.in_ok-due.was at c.due_waits-due.ensures) depth 7
