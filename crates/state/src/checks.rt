@@ -75,14 +75,19 @@ fn carrier_valid(s: &State, i: usize) -> bool
         && record_valid(s, answer_place(i), 1, 2)
 }
 
-// Place p of the channel that begins at `channel` and has `count` messages.
+// Place p of the channel that begins at `channel` and has `count` messages. A call in each arm: with the bounds of the tag chosen first and
+// one call, every place is tested as one with a message, and a step of eight carriers takes up to half as long again.
 #[tactic(auto, unfolding(encoding::specs::Valid::place_valid))]
 fn place_valid(s: &State, channel: usize, count: usize, p: usize) -> bool
     requires { (p < 4) × (channel + 261 ≤ length s.now.memory.now) × (channel ≤ 9665) }
     ensures { result ≡ place_valid s.now.floor s.now.memory.now (channel + 1) count p }
 {
-    let (low, high) = if p < count { (1, 2) } else { (0, 0) };
-    record_valid(s, message_place(channel, p), low, high)
+    let at = message_place(channel, p);
+    if p < count {
+        record_valid(s, at, 1, 2)
+    } else {
+        record_valid(s, at, 0, 0)
+    }
 }
 
 // The channel that begins at `channel`.
